@@ -1,0 +1,13 @@
+use Rattle.std.proofs.Common.{◌≡◌, ◌++◌, [], ◌∷◌, inr, refl, arith}
+use Rattle.std.proofs.lemmas.Grind.{common_steps}
+use Rattle.tt_disk.specs.declared.memory.Step.TheVariants.{Create}
+use Rattle.tt_disk.proofs.Entries.{half_done, noted}
+use Rattle.tt_disk.proofs.memory.MemFile.create.Goals as goal
+
+pub returns-then-is_err-clause-steps : goal.returns-then-is_err-clause-steps
+returns-then-is_err-clause-steps c = half_done Create _ _ _ refl refl c.push.ensures.items refl
+
+pub returns-clause-steps : goal.returns-clause-steps
+returns-clause-steps c =
+    let pushed : c.push.new.self.items ≡ c.args.self.now.steps.items ++ Create ∷ [] = grind (arith, common_steps) in
+    noted Create _ _ refl refl pushed (inr ([], grind (arith, common_steps), omega arith))

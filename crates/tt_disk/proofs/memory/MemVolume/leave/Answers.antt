@@ -1,0 +1,20 @@
+use Rattle.std.proofs.Common.{◌≡◌, subst}
+use Rattle.tt_disk.specs.Memory.{AreLeft}
+use Rattle.tt_disk.proofs.Leaving.{all_left, reads_same, each_contents}
+use Rattle.tt_disk.proofs.memory.MemVolume.leave.Goals as goal
+
+pub returns-clause-left : goal.returns-clause-left
+returns-clause-left c n =
+    let left = subst (λ l. AreLeft l c.in_ok-left_files.field-0.items) c.deref.ensures.value c.in_ok-left_files.ensures.left in
+    (all_left c.args.self.now.files.items c.in_ok-left_files.field-0.items left n).0
+
+pub returns-clause-settled : goal.returns-clause-settled
+returns-clause-settled c n =
+    let left = subst (λ l. AreLeft l c.in_ok-left_files.field-0.items) c.deref.ensures.value c.in_ok-left_files.ensures.left in
+    (all_left c.args.self.now.files.items c.in_ok-left_files.field-0.items left n).1
+
+pub returns-clause-as_read : goal.returns-clause-as_read
+returns-clause-as_read c one n =
+    let left = subst (λ l. AreLeft l c.in_ok-left_files.field-0.items) c.deref.ensures.value c.in_ok-left_files.ensures.left in
+    let same = subst (λ l. each_contents c.in_ok-left_files.field-0.items ≡ each_contents l) c.deref.ensures.value (c.in_ok-left_files.ensures.as_read one) in
+    reads_same c.args.self.now.files.items c.in_ok-left_files.field-0.items left same n

@@ -1,0 +1,54 @@
+-- What a write that was done in part leaves of a file in pieces, and how steps follow each other.
+use Rattle.std.proofs.Common.{◌≡◌, ℕ, ◌+◌, ◌≤◌, List, ◌++◌, length, take, drop, Option, Some, None, refl, sym, ◌∙◌, ap, arith, append_assoc, length-append, length-drop, take-append-drop}
+use Rattle.std.proofs.lemmas.List.{take_at, drop_at, take-take, drop-drop, length-take}
+use Rattle.tt_disk.specs.declared.volume.Name.{Name}
+use Rattle.tt_disk.specs.Volume.{overwritten, TornBytes, Torn}
+
+-- what stands before the range stays
+pub front_stays : (p rest c : List ℕ) (at n : ℕ) → length p ≤ at → TornBytes at n (p ++ rest) c → c ≡ p ++ drop (length p) c
+front_stays p rest c at n le torn =
+    let k = length p in
+    let front : take k c ≡ p =
+    sym (take-take k at c le) ∙ ap (λ (l : List ℕ). take k l) torn.before ∙ take-take k at (p ++ rest) le ∙ take_at p rest k refl in
+    sym (take-append-drop k c) ∙ ap (λ (l : List ℕ). l ++ drop k c) front
+
+-- within the file, the range has other bytes and all else stays
+pub middle_changes : (p m q c : List ℕ) (at n : ℕ) → length p ≡ at → length m ≡ n → TornBytes at n (p ++ (m ++ q)) c
+    → (m' : List ℕ) × (length m' ≡ n) × (c ≡ p ++ (m' ++ q))
+middle_changes p m q c at n is_at is_n torn =
+    let total : length (p ++ (m ++ q)) ≡ at + n + length q = omega (arith, length-append p (m ++ q), length-append m q) in
+    let long : length c ≡ at + n + length q = omega (arith, torn.no_shorter, torn.no_longer, total) in
+    let front : take at c ≡ p = torn.before ∙ take_at p (m ++ q) at is_at in
+    let back : drop n (drop at c) ≡ q =
+    drop-drop n at c ∙ torn.after ∙ sym (drop-drop n at (p ++ (m ++ q))) ∙ ap (λ (l : List ℕ). drop n l) (drop_at p (m ++ q) at is_at) ∙ drop_at m q n is_n in
+    let m' : List ℕ = take n (drop at c) in (
+      m',
+      omega (arith, length-take n (drop at c), length-drop at c, long),
+      sym (take-append-drop at c) ∙ ap (λ (l : List ℕ). l ++ drop at c) front
+          ∙ ap (λ (l : List ℕ). p ++ l) (sym (take-append-drop n (drop at c)) ∙ ap (λ (l : List ℕ). take n (drop at c) ++ l) back),
+    )
+
+-- a write over a part of the same length, and over the rest
+pub middle_written : (p m q bytes : List ℕ) (at : ℕ) → length p ≡ at → length m ≡ length bytes → overwritten at bytes (p ++ (m ++ q)) ≡ p ++ (bytes ++ q)
+middle_written p m q bytes at is_at same =
+    let front : take at (p ++ (m ++ q)) ≡ p = take_at p (m ++ q) at is_at in
+    let back : drop (at + length bytes) (p ++ (m ++ q)) ≡ q =
+    sym (drop-drop (length bytes) at (p ++ (m ++ q))) ∙ ap (λ (l : List ℕ). drop (length bytes) l) (drop_at p (m ++ q) at is_at) ∙ drop_at m q (length bytes) same in
+    ap (λ (l : List ℕ). l ++ bytes ++ drop (at + length bytes) (p ++ (m ++ q))) front ∙ ap (λ (l : List ℕ). p ++ bytes ++ l) back ∙ append_assoc p bytes q
+
+pub end_written : (p q bytes : List ℕ) (at : ℕ) → length p ≡ at → overwritten at bytes (p ++ q) ≡ p ++ (bytes ++ drop (length bytes) q)
+end_written p q bytes at is_at =
+    let front : take at (p ++ q) ≡ p = take_at p q at is_at in
+    let back : drop (at + length bytes) (p ++ q) ≡ drop (length bytes) q =
+    sym (drop-drop (length bytes) at (p ++ q)) ∙ ap (λ (l : List ℕ). drop (length bytes) l) (drop_at p q at is_at) in
+    ap (λ (l : List ℕ). l ++ bytes ++ drop (at + length bytes) (p ++ q)) front ∙ ap (λ (l : List ℕ). p ++ bytes ++ l) back ∙ append_assoc p bytes (drop (length bytes) q)
+
+-- a torn step of a file that is there leads to a file that is there
+pub torn_there : {P : Type 0} (at n : ℕ) (old : List ℕ) (c : Option (List ℕ)) → Torn at n (Some old) c → ((f : List ℕ) → c ≡ Some f → TornBytes at n old f → P) → P
+torn_there at n old (Some f) torn then = then f refl torn
+torn_there at n old None torn then = absurd torn
+
+-- All but one file is as it was, and a crash leaves of the others nothing that it couldn't have left before.
+pub record OnlyAt (name : Name) (old new : Name → Option (List ℕ)) (may_old may_new : Name → Option (List ℕ) → Type 0) : Type 0 where
+  pub reads : (n : Name) → ¬ (n ≡ name) → new n ≡ old n
+  pub crash : (n : Name) → ¬ (n ≡ name) → (c : Option (List ℕ)) → may_new n c → may_old n c

@@ -1,0 +1,4 @@
+pub mod Causes
+pub mod Laws
+pub mod Memory
+pub mod Volume

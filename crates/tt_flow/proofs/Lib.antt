@@ -1,0 +1,4 @@
+pub mod Cuts
+pub mod Given
+pub mod Kept
+pub mod Taken

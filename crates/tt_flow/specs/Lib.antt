@@ -1,0 +1,5 @@
+pub mod Memory
+pub mod Pieces
+pub mod PutsLine
+pub mod Reading
+pub mod Script

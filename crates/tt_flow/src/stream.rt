@@ -1,0 +1,39 @@
+// What is read from and written to.
+ghost use Rattle.std.specs.Prelude.{◌≡◌, ℕ, List, take, OnOk, OnErr};
+ghost use Rattle.std.specs.declared.option.Option.{Option};
+ghost use Rattle.std.specs.Io.{ReadsAtMost};
+ghost use Rattle.std.specs.Io.KnownBytes.{ReadConsumes, Appends};
+ghost use Rattle.tt_disk.specs.Causes.{HasCause};
+
+use tt_disk::Failed;
+
+/// A stream of bytes that comes in.
+pub trait Source {
+    /// What is left, where the source tells it.
+    ghost left: { Self → Option (List ℕ) };
+
+    /// How often the source has failed.
+    ghost faults: { Self → ℕ };
+
+    /// Fills the buffer's front, and answers how many bytes it gave. At a buffer that isn't empty, 0 comes at the end of input
+    /// alone. A call that fails takes nothing.
+    fn take(&mut self, buf: &mut [u8]) -> Result<usize, Failed>
+        ensures bound { ReadsAtMost result buf.new }
+        ensures bytes { ReadConsumes (left self.old) (left self.new) result buf.new }
+        ensures cause { HasCause (faults self.old) (faults self.new) result };
+}
+
+/// A stream of bytes that goes out.
+pub trait Sink {
+    /// What was appended, where the sink tells it.
+    ghost given: { Self → Option (List ℕ) };
+
+    /// How often the sink has failed.
+    ghost faults: { Self → ℕ };
+
+    /// Appends the piece. A call that fails has appended a prefix of it.
+    fn put(&mut self, piece: &[u8]) -> Result<(), Failed>
+        ensures whole { OnOk result (Appends (given self.old) (given self.new) piece.now) }
+        ensures prefix { OnErr result ((n : ℕ) × Appends (given self.old) (given self.new) (take n piece.now)) }
+        ensures cause { HasCause (faults self.old) (faults self.new) result };
+}

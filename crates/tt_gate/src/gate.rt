@@ -1,0 +1,240 @@
+// A file of a header and batches behind gate bytes.
+ghost use Rattle.std.specs.Prelude.{◌≡◌, ◌⊎◌, ◌+◌, ◌-◌, ◌^◌, ◌<◌, ◌≤◌, Option, List, [], ◌∷◌, ◌++◌, ℕ, length, OnOk, IfOk, Ok, Err, IsErrOf, IfErr};
+ghost use Rattle.tt_disk.specs.Causes.{HasCause, RoseWhere};
+ghost use Rattle.tt_disk.specs.Volume.{Keeps, IsSettled};
+ghost use Rattle.tt_disk.specs.Laws.{OnlyAt};
+ghost use Rattle.tt_gate.specs.Gate.{gated};
+
+use crate::walk::{check_header, last_gate};
+use tt_disk::{Failed, Name, Volume};
+
+#[derive(Clone, Copy, Debug, PartialEq, Eq)]
+pub enum GateRefusal {
+    Absent,
+    BadHeader,
+    BadBatch { at: u64 },
+    Failed,
+}
+
+impl From<Failed> for GateRefusal {
+    ghost use Rattle.std.specs.Prelude.{◌≡◌};
+    ghost use Rattle.tt_gate.specs.declared.gate.GateRefusal.TheVariants.{Failed};
+
+    ghost from_gives = { λ _ e. e ≡ Failed };
+
+    fn from(_: Failed) -> Self {
+        GateRefusal::Failed
+    }
+}
+
+#[derive(Clone, Copy, Debug, PartialEq, Eq)]
+pub enum Gate {
+    Closed,
+    Full { length: u64 },
+}
+
+#[derive(Debug, Drop)]
+pub struct GateFile {
+    name: Name,
+    gate: u64,
+    staged: u64,
+    // The file was synced since it was found.
+    settled: bool,
+    ghost in_range: { gate + staged ≤ 2 ^ 62 },
+}
+
+impl GateFile {
+    ghost use Rattle.std.specs.Prelude.{true};
+    ghost use Rattle.tt_gate.specs.Standing.{LeavesFormer, LeavesFormerOrMore, IsReady, LieAt, Stands, StandsSomehow, Leaves, IsSo, IsLaid, LeavesThese, LeavesOneMore, staged_in, with_batch};
+
+    /// Makes the file, with this header and no batch.
+    pub fn make<V: Volume>(
+        volume: &mut V,
+        name: Name,
+        header: &[u8; 16],
+    ) -> Result<GateFile, Failed>
+        ensures ready { V.told → IfOk result (λ file. IsReady file (V.now volume.new) (V.may volume.new)) }
+        ensures done { V.told → OnOk result (gated (V.now volume.new name) ≡ Ok (header.now, [])) }
+        ensures settled { V.told → OnOk result (IsSettled name (V.now volume.new) (V.may volume.new)) }
+        ensures fresh { IfOk result (λ file. (file.name ≡ name) × (file.staged ≡ 0)) }
+        ensures others { V.told → OnlyAt name (V.now volume.old) (V.now volume.new) (V.may volume.old) (V.may volume.new) }
+        ensures cause { HasCause (V.faults volume.old) (V.faults volume.new) result }
+    {
+        volume.create(name)?;
+        volume.write_at(name, 0, header)?;
+        volume.write_at(name, 16, &[0])?;
+        volume.sync(name)?;
+        Ok(GateFile {
+            name,
+            gate: 16,
+            staged: 0,
+            settled: true,
+        })
+    }
+
+    /// Finds the end of a file's batches.
+    pub fn find_end<V: Volume>(
+        volume: &mut V,
+        name: Name,
+        header: &[u8; 16],
+    ) -> Result<GateFile, GateRefusal>
+        ensures found { V.told → OnOk result ((bodies : List (List ℕ)) × (gated (V.now volume.old name) ≡ Ok (header.now, bodies))) }
+        ensures fresh { IfOk result (λ file. (file.name ≡ name) × (file.staged ≡ 0)) }
+        ensures refused { V.told → IfErr result (λ e. IsSo header.now (V.now volume.old name) e) }
+
+        ensures ready { V.told → IfOk result (λ file. IsReady file (V.now volume.new) (V.may volume.new)) }
+        ensures keeps { V.told → Keeps (V.now volume.old) (V.now volume.new) (V.may volume.old) (V.may volume.new) }
+        ensures cause { RoseWhere (IsErrOf result GateRefusal.Failed) (V.faults volume.old) (V.faults volume.new) }
+    {
+        check_header(volume, name, header)?;
+        let gate = last_gate(volume, name)?;
+        Ok(GateFile {
+            name,
+            gate,
+            staged: 0,
+            settled: false,
+        })
+    }
+
+    // Writes eight zero bytes behind the gate, where nothing is staged.
+    fn make_place<V: Volume>(&self, volume: &mut V) -> Result<(), Failed>
+        requires stands { V.told → StandsSomehow self.now (V.now volume.old) }
+        ensures laid { V.told → (header : List ℕ) (bodies : List (List ℕ)) (staged : List ℕ) → Stands header bodies staged self.now (V.now volume.old)
+            → OnOk result (LieAt (9 + self.now.gate) staged (V.now volume.new self.now.name)) }
+        ensures reads { V.told → (header : List ℕ) (bodies : List (List ℕ)) (staged : List ℕ) → Stands header bodies staged self.now (V.now volume.old)
+            → gated (V.now volume.new self.now.name) ≡ Ok (header, bodies) }
+        ensures crash { V.told → (header : List ℕ) (bodies : List (List ℕ)) (staged : List ℕ) → Stands header bodies staged self.now (V.now volume.old)
+            → Leaves header bodies (V.may volume.old self.now.name) → Leaves header bodies (V.may volume.new self.now.name) }
+        ensures others { V.told → OnlyAt self.now.name (V.now volume.old) (V.now volume.new) (V.may volume.old) (V.may volume.new) }
+        ensures cause { HasCause (V.faults volume.old) (V.faults volume.new) result }
+    {
+        if self.staged > 0 {
+            return Ok(());
+        }
+        volume.write_at(self.name, self.gate + 1, &[0; 8])
+    }
+
+    // Adds to what is staged, where the file was synced.
+    fn add_piece<V: Volume>(&mut self, volume: &mut V, piece: &[u8]) -> Result<(), Failed>
+        requires ready { V.told → IsLaid self.old (V.now volume.old) }
+
+        ensures ready { V.told → OnOk result (IsLaid self.new (V.now volume.new)) }
+        ensures staged { V.told → OnOk result (staged_in self.new (V.now volume.new self.old.name) ≡ staged_in self.old (V.now volume.old self.old.name) ++ piece.now) }
+        ensures same { V.told → gated (V.now volume.new self.old.name) ≡ gated (V.now volume.old self.old.name) }
+        ensures crash { V.told → LeavesThese (gated (V.now volume.old self.old.name)) (V.may volume.old self.old.name)
+            → LeavesThese (gated (V.now volume.old self.old.name)) (V.may volume.new self.old.name) }
+        ensures others { V.told → OnlyAt self.old.name (V.now volume.old) (V.now volume.new) (V.may volume.old) (V.may volume.new) }
+        ensures name { self.new.name ≡ self.old.name }
+        ensures still { self.new.settled ≡ self.old.settled }
+        ensures count { OnOk result (self.new.staged ≡ self.old.staged + length piece.now) }
+        ensures cause { HasCause (V.faults volume.old) (V.faults volume.new) result }
+    {
+        self.make_place(volume)?;
+        volume.write_at(self.name, self.gate + 9 + self.staged, piece)?;
+        self.staged += piece.len() as u64;
+        Ok(())
+    }
+
+    // Syncs a file that was found, before the first write to it.
+    fn settle<V: Volume>(&mut self, volume: &mut V) -> Result<(), Failed>
+        requires ready { V.told → IsReady self.old (V.now volume.old) (V.may volume.old) }
+        ensures ready { V.told → OnOk result (IsReady self.new (V.now volume.new) (V.may volume.new)) }
+        ensures done { OnOk result (self.new.settled ≡ true) }
+        ensures keeps { V.told → Keeps (V.now volume.old) (V.now volume.new) (V.may volume.old) (V.may volume.new) }
+        ensures same { (self.new.name ≡ self.old.name) × (self.new.gate ≡ self.old.gate) × (self.new.staged ≡ self.old.staged) }
+        ensures cause { HasCause (V.faults volume.old) (V.faults volume.new) result }
+    {
+        if self.settled {
+            return Ok(());
+        }
+        volume.sync(self.name)?;
+        self.settled = true;
+        Ok(())
+    }
+
+    /// Adds to what is staged for the next batch.
+    pub fn stage<V: Volume>(&mut self, volume: &mut V, piece: &[u8]) -> Result<(), Failed>
+        requires ready { V.told → IsReady self.old (V.now volume.old) (V.may volume.old) }
+        ensures ready { V.told → OnOk result (IsReady self.new (V.now volume.new) (V.may volume.new)) }
+        ensures staged { V.told → OnOk result (staged_in self.new (V.now volume.new self.old.name) ≡ staged_in self.old (V.now volume.old self.old.name) ++ piece.now) }
+        ensures same { V.told → gated (V.now volume.new self.old.name) ≡ gated (V.now volume.old self.old.name) }
+
+        // A crash now leaves what one before could leave, or these batches.
+        ensures crash { V.told → LeavesFormer (V.may volume.old self.old.name) (gated (V.now volume.old self.old.name)) (V.may volume.new self.old.name) }
+        ensures others { V.told → OnlyAt self.old.name (V.now volume.old) (V.now volume.new) (V.may volume.old) (V.may volume.new) }
+        ensures name { self.new.name ≡ self.old.name }
+        ensures count { OnOk result (self.new.staged ≡ self.old.staged + length piece.now) }
+        ensures cause { HasCause (V.faults volume.old) (V.faults volume.new) result }
+    {
+        self.settle(volume)?;
+        self.add_piece(volume, piece)
+    }
+
+    /// Makes a batch of what is staged.
+    pub fn finish<V: Volume>(&mut self, volume: &mut V) -> Result<(), Failed>
+        requires staged { 0 < self.old.staged }
+        requires ready { V.told → IsReady self.old (V.now volume.old) (V.may volume.old) }
+        ensures ready { V.told → OnOk result (IsReady self.new (V.now volume.new) (V.may volume.new)) }
+        ensures done { V.told → OnOk result (gated (V.now volume.new self.old.name) ≡ with_batch (staged_in self.old (V.now volume.old self.old.name)) (gated (V.now volume.old self.old.name))) }
+        ensures settled { V.told → OnOk result (IsSettled self.old.name (V.now volume.new) (V.may volume.new)) }
+
+        // A crash now leaves these batches, or these and the new one.
+        ensures crash { V.told → LeavesOneMore (gated (V.now volume.old self.old.name)) (staged_in self.old (V.now volume.old self.old.name)) (V.may volume.new self.old.name) }
+        ensures others { V.told → OnlyAt self.old.name (V.now volume.old) (V.now volume.new) (V.may volume.old) (V.may volume.new) }
+        ensures name { self.new.name ≡ self.old.name }
+        ensures fresh { OnOk result (self.new.staged ≡ 0) }
+        ensures cause { HasCause (V.faults volume.old) (V.faults volume.new) result }
+    {
+        self.close_batch(volume)
+    }
+
+    /// Adds a batch, of what is staged and this.
+    pub fn append_batch<V: Volume>(&mut self, volume: &mut V, body: &[u8]) -> Result<(), Failed>
+        requires body { 0 < length body.now }
+        requires ready { V.told → IsReady self.old (V.now volume.old) (V.may volume.old) }
+        ensures ready { V.told → OnOk result (IsReady self.new (V.now volume.new) (V.may volume.new)) }
+        ensures done { V.told → OnOk result (gated (V.now volume.new self.old.name)
+            ≡ with_batch (staged_in self.old (V.now volume.old self.old.name) ++ body.now) (gated (V.now volume.old self.old.name))) }
+        ensures settled { V.told → OnOk result (IsSettled self.old.name (V.now volume.new) (V.may volume.new)) }
+
+        // A crash now leaves what one before could leave, or these batches, or these and the new one.
+        ensures crash { V.told → LeavesFormerOrMore (V.may volume.old self.old.name) (gated (V.now volume.old self.old.name)) (staged_in self.old (V.now volume.old self.old.name) ++ body.now) (V.may volume.new self.old.name) }
+        ensures others { V.told → OnlyAt self.old.name (V.now volume.old) (V.now volume.new) (V.may volume.old) (V.may volume.new) }
+        ensures name { self.new.name ≡ self.old.name }
+        ensures fresh { OnOk result (self.new.staged ≡ 0) }
+        ensures cause { HasCause (V.faults volume.old) (V.faults volume.new) result }
+    {
+        self.stage(volume, body)?;
+        self.finish(volume)
+    }
+
+    // Makes a batch of what is staged, where the file was synced.
+    fn close_batch<V: Volume>(&mut self, volume: &mut V) -> Result<(), Failed>
+        requires staged { 0 < self.old.staged }
+        requires ready { V.told → IsLaid self.old (V.now volume.old) }
+
+        ensures ready { V.told → OnOk result (IsLaid self.new (V.now volume.new)) }
+        ensures done { V.told → OnOk result (gated (V.now volume.new self.old.name) ≡ with_batch (staged_in self.old (V.now volume.old self.old.name)) (gated (V.now volume.old self.old.name))) }
+
+        ensures settled { V.told → OnOk result (IsSettled self.old.name (V.now volume.new) (V.may volume.new)) }
+
+        // Where a crash before could leave these batches alone, one now leaves the former batches, or these and the new one.
+        ensures crash { V.told → LeavesThese (gated (V.now volume.old self.old.name)) (V.may volume.old self.old.name)
+            → LeavesOneMore (gated (V.now volume.old self.old.name)) (staged_in self.old (V.now volume.old self.old.name)) (V.may volume.new self.old.name) }
+        ensures others { V.told → OnlyAt self.old.name (V.now volume.old) (V.now volume.new) (V.may volume.old) (V.may volume.new) }
+        ensures name { self.new.name ≡ self.old.name }
+        ensures still { self.new.settled ≡ self.old.settled }
+        ensures fresh { OnOk result (self.new.staged ≡ 0) }
+        ensures cause { HasCause (V.faults volume.old) (V.faults volume.new) result }
+    {
+        let end = self.gate + 9 + self.staged;
+        volume.write_at(self.name, self.gate + 1, &self.staged.to_be_bytes())?;
+        volume.write_at(self.name, end, &[0])?;
+        volume.sync(self.name)?;
+        volume.write_at(self.name, self.gate, &[1])?;
+        volume.sync(self.name)?;
+        self.gate = end;
+        self.staged = 0;
+        Ok(())
+    }
+}
