@@ -1,0 +1,9 @@
+pub mod Opening
+pub mod Refusals
+pub mod Replies
+pub mod Requests
+pub mod Rows
+pub mod Runs
+pub mod Session
+pub mod Statuses
+pub mod Words
