@@ -1,7 +1,8 @@
 -- One more line of a run.
-use Rattle.std.proofs.Common.{◌≡◌, ◌⊎◌, inl, inr, ℕ, List, [], ◌∷◌, ◌++◌, length, take, map, Option, Some, None, Result, Ok, Err, refl, sym, ap, ◌∙◌, subst, append_assoc, append-nil}
+use Rattle.std.proofs.Common.{◌≡◌, ◌^◌, ◌⊎◌, inl, inr, ℕ, List, [], ◌∷◌, ◌++◌, ◌≤◌, arith, length, take, map, Option, Some, None, Result, Ok, Err, refl, sym, ap, ◌∙◌, subst, append_assoc, append-nil, length-append}
 use Rattle.std.specs.Prelude.{flat_map, codes}
-use Rattle.std.proofs.lemmas.List.{map-append}
+use Rattle.std.proofs.lemmas.List.{map-append, take_at}
+use Rattle.std.proofs.Math.Seq.{take-length}
 use Rattle.std.proofs.lemmas.Grind.{flat_map-append}
 use Rattle.std.specs.Io.KnownBytes.{Appends}
 use Rattle.tt_flow.specs.Reading.{HasGiven}
@@ -26,9 +27,10 @@ use Rattle.tt_run.specs.declared.session.Session.{Session}
 use Rattle.tt_run.specs.declared.status.Status.{Status}
 use Rattle.tt_run.specs.declared.status.Status.TheVariants.{Done as AllDone, ScriptFault, SinkFault, VolumeFault, NoMemory, Usage, Damaged, Exists, NoDatabase, ScriptTooLong}
 use Rattle.tt_run.specs.declared.status.Stop.{Stop}
+use Rattle.tt_run.specs.declared.status.Stop.TheVariants.{Logs, Images, Backups}
 use Rattle.tt_run.specs.declared.load.OpenRefusal.{OpenRefusal}
-use Rattle.tt_run.specs.Runs.{texts, AreAnswered, AreLinesDone, HasRun, IsRunning, IsNext, IsScriptEnd, MovesRows, EndsRows, IsCreated}
-use Rattle.tt_run.specs.Session.{row_inserted, inserted, IsReply, AreReplies, row_batch, own_after, commits, own_rows, committed_rows, committed_after, Knows, HasRows, LeavesRows, Answers}
+use Rattle.tt_run.specs.Runs.{texts, AreAnswered, AreLinesDone, HasRun, IsRunning, IsNext, IsScriptEnd, MovesRows, EndsRows, IsCreated, LeavesCommits, first_commits, IsOpenFault, IsRun, IsOpened, IsFaultOf}
+use Rattle.tt_run.specs.Session.{row_inserted, inserted, IsReply, AreReplies, row_batch, own_after, commits, own_rows, committed_rows, committed_after, Knows, HasRows, LeavesRows, LeavesEither, Answers}
 
 abbrev Answered : Type 0
 Answered = List (Request × Reply)
@@ -160,12 +162,46 @@ ended_script script left rest found before after answered reader session (Damage
 ended_script script left rest found before after answered reader session Exists fault run done is = absurd is
 ended_script script left rest found before after answered reader session NoDatabase fault run done is = absurd is
 
+-- where no commit failed, a crash leaves the rows of all commits
+abbrev leaves_all : List Row → Answered → List (List Row) → (Name → Option (List ℕ) → Type 0) → Type 0
+leaves_all found answered begun may = (c : Option (List ℕ)) → may (Log 0) c → (n : ℕ) × (length (commits [] answered) ≤ n) × (opened c ≡ Ok (first_commits found n begun))
+
+all_left : (found : List Row) (answered : Answered) (may : Name → Option (List ℕ) → Type 0) → LeavesRows (committed_rows found answered) may → leaves_all found answered (commits [] answered) may
+all_left found answered may leaves c left = (
+  length (commits [] answered),
+  omega arith,
+  leaves c left ∙ ap (λ l. Ok (found ++ all_rows l)) (sym (take-length (commits [] answered))),
+)
+
+-- where a commit failed, a crash leaves the rows of those before, or its own rows too
+pub either_left : (found : List Row) (answered : Answered) (stop : Stop) (may : Name → Option (List ℕ) → Type 0) → LeavesEither (committed_rows found answered) (committed_rows found answered ++ own_rows [] answered) may
+    → LeavesCommits found answered (VolumeFault stop) may
+either_left found answered stop may leaves c left = by_case (leaves c left)
+  where
+    begun : List (List Row)
+    begun = commits [] answered ++ own_rows [] answered ∷ []
+
+    by_case : (opened c ≡ Ok (committed_rows found answered)) ⊎ (opened c ≡ Ok (committed_rows found answered ++ own_rows [] answered))
+        → (n : ℕ) × (length (commits [] answered) ≤ n) × (opened c ≡ Ok (first_commits found n begun))
+    by_case (inl before) = (
+      length (commits [] answered),
+      omega arith,
+      before ∙ ap (λ l. Ok (found ++ all_rows l)) (sym (take_at (commits [] answered) (own_rows [] answered ∷ []) (length (commits [] answered)) refl)),
+    )
+    by_case (inr after) = (
+      length begun,
+      omega (arith, length-append (commits [] answered) (own_rows [] answered ∷ [])),
+      after ∙ ap (λ l. Ok l) (append_assoc found (all_rows (commits [] answered)) (own_rows [] answered)
+          ∙ ap (λ l. found ++ l) (sym (all_rows-append (commits [] answered) (own_rows [] answered ∷ []) ∙ ap (λ l. all_rows (commits [] answered) ++ l) (append-nil (own_rows [] answered))))
+          ∙ ap (λ l. found ++ all_rows l) (sym (take-length begun))),
+    )
+
 -- nothing of the log file changed at the end of a script
 pub ended_rows : (told : Type 0) (found : List Row) (answered : Answered) (status : Status) (fault : Type 0) (now : Name → Option (List ℕ)) (may : Name → Option (List ℕ) → Type 0) → IsScriptEnd (Err status) fault
     → EndsRows told (committed_rows found answered) found answered status now now may may
-ended_rows told found answered AllDone fault now may is = record { rows = λ _ has. has; crash = λ _ _ leaves. leaves }
-ended_rows told found answered ScriptTooLong fault now may is = record { rows = λ _ has. has; crash = λ _ _ leaves. leaves }
-ended_rows told found answered ScriptFault fault now may is = record { rows = λ _ has. has; crash = λ _ _ leaves. leaves }
+ended_rows told found answered AllDone fault now may is = record { rows = λ _ has. has; crash = λ _ _ leaves. all_left found answered may leaves }
+ended_rows told found answered ScriptTooLong fault now may is = record { rows = λ _ has. has; crash = λ _ _ leaves. all_left found answered may leaves }
+ended_rows told found answered ScriptFault fault now may is = record { rows = λ _ has. has; crash = λ _ _ leaves. all_left found answered may leaves }
 ended_rows told found answered SinkFault fault now may is = absurd is
 ended_rows told found answered (VolumeFault stop) fault now may is = absurd is
 ended_rows told found answered NoMemory fault now may is = absurd is
@@ -237,7 +273,10 @@ moved_rows told found answered request reply old new may_old may_new rows crash 
 
 pub ended_moved : (told : Type 0) (before found : List Row) (answered : Answered) (old new : Name → Option (List ℕ)) (may_old may_new : Name → Option (List ℕ) → Type 0)
     → MovesRows told before (committed_rows found answered) old new may_old may_new → EndsRows told before found answered SinkFault old new may_old may_new
-ended_moved told before found answered old new may_old may_new moves = record { rows = moves.rows; crash = moves.crash }
+ended_moved told before found answered old new may_old may_new moves = record {
+  rows = moves.rows;
+  crash = λ t has leaves. all_left found answered may_new (moves.crash t has leaves);
+}
 
 -- nothing was answered yet
 no_replies : (found : List Row) → AreReplies found []
@@ -319,3 +358,39 @@ ok_rows rows = Ok rows
 -- the rows of an opening are known
 pub same_rows : (first second : List Row) → ok_rows first ≡ ok_rows second → first ≡ second
 same_rows first second is = cc
+
+-- a run over rows ends well where nothing failed
+pub completes : (bytes : List ℕ) (left : Option (List ℕ)) (found : List Row) (before after : Option (List ℕ)) (status : Status) (now : Name → Option (List ℕ)) (may_old may_new : Name → Option (List ℕ) → Type 0)
+    (script sink logs images backups untouched : Type 0) → IsOpenFault status untouched ⊎ IsRun bytes left found before after status now may_old may_new → IsOpened (Ok found) status
+    → IsFaultOf status script sink logs images backups → length bytes ≤ 2 ^ 30 → ¬ script → ¬ sink → ¬ logs → (status ≡ AllDone) ⊎ (status ≡ NoMemory)
+completes bytes left found before after AllDone now may_old may_new script sink logs images backups untouched ran opens fault short no_script no_sink no_logs = inl refl
+completes bytes left found before after NoMemory now may_old may_new script sink logs images backups untouched ran opens fault short no_script no_sink no_logs = inr refl
+completes bytes left found before after ScriptFault now may_old may_new script sink logs images backups untouched ran opens fault short no_script no_sink no_logs = absurd (no_script fault)
+completes bytes left found before after SinkFault now may_old may_new script sink logs images backups untouched ran opens fault short no_script no_sink no_logs = absurd (no_sink fault)
+completes bytes left found before after (VolumeFault Logs) now may_old may_new script sink logs images backups untouched ran opens fault short no_script no_sink no_logs = absurd (no_logs fault)
+completes bytes left found before after (VolumeFault Images) now may_old may_new script sink logs images backups untouched ran opens fault short no_script no_sink no_logs = absurd opens
+completes bytes left found before after (VolumeFault Backups) now may_old may_new script sink logs images backups untouched ran opens fault short no_script no_sink no_logs = absurd opens
+completes bytes left found before after Usage now may_old may_new script sink logs images backups untouched ran opens fault short no_script no_sink no_logs = absurd opens
+completes bytes left found before after (Damaged damage) now may_old may_new script sink logs images backups untouched ran opens fault short no_script no_sink no_logs = absurd opens
+completes bytes left found before after Exists now may_old may_new script sink logs images backups untouched ran opens fault short no_script no_sink no_logs = absurd opens
+completes bytes left found before after NoDatabase now may_old may_new script sink logs images backups untouched ran opens fault short no_script no_sink no_logs = absurd opens
+completes bytes left found before after ScriptTooLong now may_old may_new script sink logs images backups untouched (inl open_fault) opens fault short no_script no_sink no_logs = absurd open_fault
+completes bytes left found before after ScriptTooLong now may_old may_new script sink logs images backups untouched (inr (answered, run, rows, leaves)) opens fault short no_script no_sink no_logs =
+    absurd (omega (arith, run.done.0))
+
+-- and a database is made where nothing failed
+pub completes_create : (log : Option (List ℕ)) (status : Status) (now : Name → Option (List ℕ)) (may : Name → Option (List ℕ) → Type 0) (script sink logs images backups : Type 0) → IsCreated log status now may → log ≡ None
+    → IsFaultOf status script sink logs images backups → ¬ sink → ¬ logs → status ≡ AllDone
+completes_create (Some file) status now may script sink logs images backups made none fault no_sink no_logs = cc
+completes_create None AllDone now may script sink logs images backups made none fault no_sink no_logs = refl
+completes_create None SinkFault now may script sink logs images backups made none fault no_sink no_logs = absurd (no_sink fault)
+completes_create None (VolumeFault Logs) now may script sink logs images backups made none fault no_sink no_logs = absurd (no_logs fault)
+completes_create None (VolumeFault Images) now may script sink logs images backups made none fault no_sink no_logs = absurd made
+completes_create None (VolumeFault Backups) now may script sink logs images backups made none fault no_sink no_logs = absurd made
+completes_create None ScriptFault now may script sink logs images backups made none fault no_sink no_logs = absurd made
+completes_create None ScriptTooLong now may script sink logs images backups made none fault no_sink no_logs = absurd made
+completes_create None NoMemory now may script sink logs images backups made none fault no_sink no_logs = absurd made
+completes_create None Usage now may script sink logs images backups made none fault no_sink no_logs = absurd made
+completes_create None (Damaged damage) now may script sink logs images backups made none fault no_sink no_logs = absurd made
+completes_create None Exists now may script sink logs images backups made none fault no_sink no_logs = absurd made
+completes_create None NoDatabase now may script sink logs images backups made none fault no_sink no_logs = absurd made

@@ -1,7 +1,8 @@
 -- What a run of a script writes, and what it leaves of the log file.
-use Rattle.std.specs.Prelude.{◌≡◌, ◌<◌, ◌-◌, ◌⊎◌, ℕ, List, [], ◌∷◌, ◌++◌, length, take, map, flat_map, codes, Option, Some, None, Result, Ok, Err}
+use Rattle.std.specs.Prelude.{◌≡◌, ◌<◌, ◌≤◌, ◌-◌, ◌⊎◌, ℕ, List, [], ◌∷◌, ◌++◌, length, take, map, flat_map, codes, Option, Some, None, Result, Ok, Err}
 use Rattle.std.specs.Io.KnownBytes.{Appends}
 use Rattle.tt_disk.specs.declared.volume.Name.{Name}
+use Rattle.tt_disk.specs.declared.volume.Name.TheVariants.{Log}
 use Rattle.tt_flow.specs.Reading.{HasGiven, HasGivenTold}
 use Rattle.tt_flow.specs.Script.{script_lines, ended_lines, script_most}
 use Rattle.tt_flow.specs.declared.lines.LineReader.{LineReader}
@@ -13,10 +14,11 @@ use Rattle.tt_run.specs.declared.status.Status.TheVariants.{Done, ScriptFault, S
 use Rattle.tt_run.specs.declared.status.Stop.TheVariants.{Logs, Images, Backups}
 use Rattle.tt_run.specs.declared.load.OpenRefusal.{OpenRefusal}
 use Rattle.tt_run.specs.declared.load.OpenRefusal.TheVariants as refusal
+use Rattle.tt_run.specs.Opening.{opened}
 use Rattle.tt_run.specs.Replies.{text_of}
 use Rattle.tt_run.specs.Requests.{IsRequest, AreRequests}
 use Rattle.tt_run.specs.Rows.{Row}
-use Rattle.tt_run.specs.Session.{AreReplies, Knows, HasRows, LeavesRows, LeavesEither, committed_rows, own_rows}
+use Rattle.tt_run.specs.Session.{AreReplies, Knows, HasRows, LeavesRows, committed_rows, commits, own_rows}
 
 -- the texts of the replies, one behind the other
 abbrev pub texts : List (Request × Reply) → List ℕ
@@ -49,11 +51,19 @@ pub record HasRun (script : List ℕ) (left : Option (List ℕ)) (found : List R
   pub done : AreLinesDone script left lines status
   pub texts_written : AreTexts before after answered status
 
--- What a crash leaves when the run ended so: the rows of all commits that were answered; where a commit failed, these, or its own
--- rows too.
+-- the commits whose rows the log file may have when the run ended so: those that were answered, and one that failed
+abbrev pub begun_commits : List (Request × Reply) → Status → List (List Row)
+begun_commits answered (VolumeFault stop) = commits [] answered ++ own_rows [] answered ∷ []
+begun_commits answered _ = commits [] answered
+
+-- the rows found at the start, and those of the first commits, so many
+abbrev pub first_commits : List Row → ℕ → List (List Row) → List Row
+first_commits found n batches = found ++ flat_map (λ batch. batch) (take n batches)
+
+-- What a crash leaves when the run ended so: a log file with the rows of the first commits, at least all that were answered.
 abbrev pub LeavesCommits : List Row → List (Request × Reply) → Status → (Name → Option (List ℕ) → Type 0) → Type 0
-LeavesCommits found answered (VolumeFault stop) may = LeavesEither (committed_rows found answered) (committed_rows found answered ++ own_rows [] answered) may
-LeavesCommits found answered _ may = LeavesRows (committed_rows found answered) may
+LeavesCommits found answered status may = (c : Option (List ℕ)) → may (Log 0) c
+    → (n : ℕ) × (length (commits [] answered) ≤ n) × (opened c ≡ Ok (first_commits found n (begun_commits answered status)))
 
 -- The lines of a script were answered so, the texts of the replies were written, and the session goes on.
 pub record IsRunning (script left : List ℕ) (found : List Row) (before after : Option (List ℕ)) (answered : List (Request × Reply)) (reader : LineReader) (session : Session) : Type 0 where
@@ -168,5 +178,7 @@ IsOpened (Ok rows) Usage = ⊥
 IsOpened (Ok rows) (Damaged damage) = ⊥
 IsOpened (Ok rows) Exists = ⊥
 IsOpened (Ok rows) NoDatabase = ⊥
+IsOpened (Ok rows) (VolumeFault Images) = ⊥
+IsOpened (Ok rows) (VolumeFault Backups) = ⊥
 IsOpened (Ok rows) _ = Unit {0}
 IsOpened (Err refusal) status = (status ≡ status_of refusal) ⊎ IsOpenFault status (Unit {0})

@@ -1,5 +1,5 @@
 // The top call.
-ghost use Rattle.std.specs.Prelude.{◌≡◌, ◌≢◌, ◌<◌, ◌≤◌, ◌⊎◌, ◌↔◌, ◌++◌, ◌∷◌, [], ℕ, List, Option, Some, None, Ok, Err, OnOk, IfSome, IfNone, map, string_bytes};
+ghost use Rattle.std.specs.Prelude.{◌^◌, length, ◌≡◌, ◌≢◌, ◌<◌, ◌≤◌, ◌⊎◌, ◌↔◌, ◌++◌, ◌∷◌, [], ℕ, List, Option, Some, None, Ok, Err, OnOk, IfSome, IfNone, map, string_bytes};
 ghost use Rattle.tt_disk.specs.Causes.{Rose};
 ghost use Rattle.tt_disk.specs.Volume.{Keeps};
 ghost use Rattle.tt_flow.specs.Reading.{HasGiven, bytes_to_come};
@@ -62,6 +62,14 @@ pub fn run<
     // `run DIR` over a log file that can't be opened.
     ensures refused { (refusal : OpenRefusal) → L.told → form_of (map string_bytes words.now) ≡ Some Action.Run → opened (L.now logs.old (Name.Log 0)) ≡ Err refusal
         → (result ≡ status_of refusal) ⊎ IsOpenFault result ((script.new ≡ script.old) × (sink.new ≡ sink.old)) }
+
+    // Where no count rose, a script of at most 2^30 bytes is done to its end, and a database is made where there is none. Want of
+    // memory alone may keep `run` from opening.
+    ensures complete_run { (bytes : List ℕ) (found : List Row) → L.told → form_of (map string_bytes words.now) ≡ Some Action.Run → S.left script.old ≡ Some bytes → opened (L.now logs.old (Name.Log 0)) ≡ Ok found
+        → length bytes ≤ 2 ^ 30 → ¬ (Rose (S.faults script.old) (S.faults script.new)) → ¬ (Rose (K.faults sink.old) (K.faults sink.new)) → ¬ (Rose (L.faults logs.old) (L.faults logs.new))
+        → (result ≡ Status.Done) ⊎ (result ≡ Status.NoMemory) }
+    ensures complete_create { L.told → form_of (map string_bytes words.now) ≡ Some Action.Create → L.now logs.old (Name.Log 0) ≡ None
+        → ¬ (Rose (K.faults sink.old) (K.faults sink.new)) → ¬ (Rose (L.faults logs.old) (L.faults logs.new)) → result ≡ Status.Done }
 
     // Nothing was read or written where a status comes before the lines, and what isn't used yet had no call.
     ensures unbegun { IsBeforeLines result → (script.new ≡ script.old) × (sink.new ≡ sink.old) }

@@ -2,7 +2,7 @@ use Rattle.std.proofs.Common.{◌++◌, ◌∷◌, [], List, ℕ, subst, take}
 use Rattle.std.specs.Io.KnownBytes.{Appends}
 use Rattle.tt_run.specs.Session.{committed_rows, own_rows}
 use Rattle.tt_run.specs.declared.status.Stop.TheVariants.{Logs}
-use Rattle.tt_run.proofs.RunLemmas.{ended_script, ended_rows, failed_commit, goes_on, failed_put, moved_rows, ended_moved}
+use Rattle.tt_run.proofs.RunLemmas.{either_left, ended_script, ended_rows, failed_commit, goes_on, failed_put, moved_rows, ended_moved}
 use Rattle.tt_run.proofs.top_call.do_line.Goals as goal
 
 pub returns-in-Err-clause-step : goal.returns-in-Err-clause-step
@@ -20,7 +20,7 @@ returns-in-Err-answer-clause-step g c = λ bytes left found before answered told
       (c.in-Ok.ensures.read bytes left run.lines told run.given) c.in-Err-answer.ensures.fails,
   record {
     rows = λ _ _. tt;
-    crash = λ known has leaves. c.in-Err-answer.ensures.crash known (committed_rows found answered) (own_rows [] answered) run.knows has leaves;
+    crash = λ known has leaves. either_left found answered Logs (g.L.Volume.may c.answer.new.logs) (c.in-Err-answer.ensures.crash known (committed_rows found answered) (own_rows [] answered) run.knows has leaves);
   },
 )
 
