@@ -1,8 +1,8 @@
 -- What a write that was done in part leaves of a file in pieces, and how steps follow each other.
-use Rattle.std.proofs.Common.{◌≡◌, ℕ, ◌+◌, ◌≤◌, List, ◌++◌, length, take, drop, Option, Some, None, refl, sym, ◌∙◌, ap, arith, append_assoc, length-append, length-drop, take-append-drop}
+use Rattle.std.proofs.Common.{◌≡◌, ℕ, ◌+◌, ◌≤◌, List, ◌++◌, length, take, drop, Option, Some, None, refl, sym, ◌∙◌, ap, subst, arith, append_assoc, length-append, length-drop, take-append-drop}
 use Rattle.std.proofs.lemmas.List.{take_at, drop_at, take-take, drop-drop, length-take}
 use Rattle.tt_disk.specs.declared.volume.Name.{Name}
-use Rattle.tt_disk.specs.Volume.{overwritten, TornBytes, Torn}
+use Rattle.tt_disk.specs.Volume.{overwritten, TornBytes, Torn, Steps, Keeps, IsSettled}
 
 -- what stands before the range stays
 pub front_stays : (p rest c : List ℕ) (at n : ℕ) → length p ≤ at → TornBytes at n (p ++ rest) c → c ≡ p ++ drop (length p) c
@@ -52,3 +52,63 @@ torn_there at n old None torn then = absurd torn
 pub record OnlyAt (name : Name) (old new : Name → Option (List ℕ)) (may_old may_new : Name → Option (List ℕ) → Type 0) : Type 0 where
   pub reads : (n : Name) → ¬ (n ≡ name) → new n ≡ old n
   pub crash : (n : Name) → ¬ (n ≡ name) → (c : Option (List ℕ)) → may_new n c → may_old n c
+
+-- How what one call did and what the next one did make what both did.
+
+pub keeps_then_keeps : (a b c : Name → Option (List ℕ)) (may_a may_b may_c : Name → Option (List ℕ) → Type 0) → Keeps a b may_a may_b → Keeps b c may_b may_c → Keeps a c may_a may_c
+keeps_then_keeps a b c may_a may_b may_c one two = record {
+  reads = λ n. two.reads n ∙ one.reads n;
+  crash = λ n file left. one.crash n file (two.crash n file left);
+}
+
+pub only_at_then_only_at : (name : Name) (a b c : Name → Option (List ℕ)) (may_a may_b may_c : Name → Option (List ℕ) → Type 0)
+    → OnlyAt name a b may_a may_b → OnlyAt name b c may_b may_c → OnlyAt name a c may_a may_c
+only_at_then_only_at name a b c may_a may_b may_c one two = record {
+  reads = λ n other. two.reads n other ∙ one.reads n other;
+  crash = λ n other file left. one.crash n other file (two.crash n other file left);
+}
+
+-- a call that changes no file changes no file but one
+pub keeps_only_at : (name : Name) (a b : Name → Option (List ℕ)) (may_a may_b : Name → Option (List ℕ) → Type 0) → Keeps a b may_a may_b → OnlyAt name a b may_a may_b
+keeps_only_at name a b may_a may_b keeps = record {
+  reads = λ n other. keeps.reads n;
+  crash = λ n other file left. keeps.crash n file left;
+}
+
+-- nor does a step of that one
+pub steps_only_at : (step : Option (List ℕ) → Option (List ℕ) → Type 0) (name : Name) (a b : Name → Option (List ℕ)) (may_a may_b : Name → Option (List ℕ) → Type 0)
+    → Steps step name a b may_a may_b → OnlyAt name a b may_a may_b
+steps_only_at step name a b may_a may_b steps = record {
+  reads = steps.others;
+  crash = steps.others_crash;
+}
+
+-- a step before or behind a call that changes no file
+pub keeps_then_steps : (step : Option (List ℕ) → Option (List ℕ) → Type 0) (name : Name) (a b c : Name → Option (List ℕ)) (may_a may_b may_c : Name → Option (List ℕ) → Type 0)
+    → Keeps a b may_a may_b → Steps step name b c may_b may_c → Steps step name a c may_a may_c
+keeps_then_steps step name a b c may_a may_b may_c keeps steps = record {
+  reads = subst (λ (o : Option (List ℕ)). step o (c name)) (keeps.reads name) steps.reads;
+  crash = λ file left.
+      let from = steps.crash file left in
+      (from.0, keeps.crash name from.0 from.1, from.2);
+  others = λ n other. steps.others n other ∙ keeps.reads n;
+  others_crash = λ n other file left. keeps.crash n file (steps.others_crash n other file left);
+}
+
+pub steps_then_keeps : (step : Option (List ℕ) → Option (List ℕ) → Type 0) (name : Name) (a b c : Name → Option (List ℕ)) (may_a may_b may_c : Name → Option (List ℕ) → Type 0)
+    → Steps step name a b may_a may_b → Keeps b c may_b may_c → Steps step name a c may_a may_c
+steps_then_keeps step name a b c may_a may_b may_c steps keeps = record {
+  reads = subst (λ (o : Option (List ℕ)). step (a name) o) (sym (keeps.reads name)) steps.reads;
+  crash = λ file left. steps.crash file (keeps.crash name file left);
+  others = λ n other. keeps.reads n ∙ steps.others n other;
+  others_crash = λ n other file left. steps.others_crash n other file (keeps.crash n file left);
+}
+
+-- a file that is settled stays so over a call that changes no file, and over one that changes another file
+pub settled_kept : (name : Name) (a b : Name → Option (List ℕ)) (may_a may_b : Name → Option (List ℕ) → Type 0) → Keeps a b may_a may_b → IsSettled name a may_a → IsSettled name b may_b
+settled_kept name a b may_a may_b keeps settled file left = settled file (keeps.crash name file left) ∙ sym (keeps.reads name)
+
+pub settled_elsewhere : (name other : Name) (a b : Name → Option (List ℕ)) (may_a may_b : Name → Option (List ℕ) → Type 0)
+    → OnlyAt other a b may_a may_b → ¬ (name ≡ other) → IsSettled name a may_a → IsSettled name b may_b
+settled_elsewhere name other a b may_a may_b only differs settled file left =
+    settled file (only.crash name differs file left) ∙ sym (only.reads name differs)

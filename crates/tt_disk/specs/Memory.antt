@@ -72,6 +72,12 @@ pub record FileSteps (step : Option (List ℕ) → Option (List ℕ) → Type 0)
   pub reads : step (contents old.bytes) (contents new.bytes)
   pub crash : (c : Option (List ℕ)) → file_may new c → (d : Option (List ℕ)) × file_may old d × step d c
 
+-- The other way round: whatever the calls before lead to is, after any such step, what the calls now lead to. The file as
+-- it reads stays among it.
+pub record Reaches (step : Option (List ℕ) → Option (List ℕ) → Type 0) (old new : MemFile) : Type 0 where
+  pub crash : (d c : Option (List ℕ)) → Leads old.steps.items (contents old.settled) d → step d c → Leads new.steps.items (contents new.settled) c
+  pub reads : Leads old.steps.items (contents old.settled) (contents old.bytes) → Leads new.steps.items (contents new.settled) (contents new.bytes)
+
 -- the number comes before the least so far, if there is one
 abbrev pub is_below : ℕ → Option ℕ → Bool
 is_below n (Some m) = nat_lt n m

@@ -61,12 +61,13 @@ fn overwrite(content: &mut Vec<u8>, at: usize, bytes: &[u8]) -> Result<(), Alloc
 }
 
 impl MemFile {
-    ghost use Rattle.tt_disk.specs.Memory.{contents, file_may, FileSteps};
+    ghost use Rattle.tt_disk.specs.Memory.{contents, file_may, FileSteps, Reaches};
 
     // Empties it. Where the call is to fail, a crash may leave it done all the same.
     fn create(&mut self, alloc: Global, fails: bool) -> Result<(), Failed>
         ensures done { OnOk result (contents self.new.bytes ≡ Some []) }
         ensures steps { FileSteps Created self.old self.new }
+        ensures reaches { OnOk result (Reaches Created self.old self.new) }
     {
         if self.steps.push(Step::Create).is_err() || fails {
             return Err(Failed);
@@ -80,6 +81,7 @@ impl MemFile {
         requires within { at ≤ size_of (contents self.old.bytes) }
         ensures done { OnOk result (contents self.new.bytes ≡ written at bytes.now (contents self.old.bytes)) }
         ensures steps { FileSteps (Torn at (length bytes.now)) self.old self.new }
+        ensures reaches { OnOk result (Reaches (Torn at (length bytes.now)) self.old self.new) }
     {
         let len = bytes.len() as u64;
         if self.steps.push(Step::Write { at, len }).is_err() || fails {
@@ -108,6 +110,7 @@ impl MemFile {
     fn remove(&mut self, fails: bool) -> Result<(), Failed>
         ensures done { OnOk result (contents self.new.bytes ≡ None) }
         ensures steps { FileSteps Removed self.old self.new }
+        ensures reaches { OnOk result (Reaches Removed self.old self.new) }
     {
         if self.steps.push(Step::Remove).is_err() || fails {
             return Err(Failed);

@@ -10,6 +10,8 @@ use crate::{Gate, GateRefusal};
 use tt_disk::{Name, Volume};
 
 // What a gate's byte and the eight behind it say, where so many bytes are left from the gate on.
+// The next gate lies in the file too. Of the eight, those past the file's end are zero here, and
+// then too few bytes are left anyway.
 fn judge(at: u64, left: u64, gate: u8, place: [u8; 8]) -> Result<Gate, GateRefusal>
     ensures { result ≡ judged at left gate place }
 {
@@ -23,12 +25,17 @@ fn judge(at: u64, left: u64, gate: u8, place: [u8; 8]) -> Result<Gate, GateRefus
     Ok(Gate::Full { length })
 }
 
-/// What the gate at an offset says.
+/// What the gate at an offset of a file says. The offset is in bytes, and any is taken: one that
+/// the file has no byte at is `BadBatch`, as a batch is that isn't whole. No file changes.
+/// `BadHeader` never comes, since the header isn't read.
 pub fn gate_at<V: Volume>(volume: &mut V, name: Name, at: u64) -> Result<Gate, GateRefusal>
-    ensures exact { V.told → (result ≡ Err GateRefusal.Failed) ⊎ (result ≡ gate_in at (V.now volume.old name)) }
+    ensures exact { V.told → (result ≡ Err GateRefusal.Failed) ⊎
+        (result ≡ gate_in at (V.now volume.old name)) }
     ensures inside { IfOk result (λ gate. EndsWithin at gate) }
-    ensures keeps { V.told → Keeps (V.now volume.old) (V.now volume.new) (V.may volume.old) (V.may volume.new) }
-    ensures cause { RoseWhere (IsErrOf result GateRefusal.Failed) (V.faults volume.old) (V.faults volume.new) }
+    ensures keeps { V.told → Keeps (V.now volume.old) (V.now volume.new)
+        (V.may volume.old) (V.may volume.new) }
+    ensures cause { RoseWhere (IsErrOf result GateRefusal.Failed) (V.faults volume.old)
+        (V.faults volume.new) }
 {
     let Some(size) = volume.size(name)? else {
         return Err(GateRefusal::Absent);
@@ -43,14 +50,18 @@ pub fn gate_at<V: Volume>(volume: &mut V, name: Name, at: u64) -> Result<Gate, G
     judge(at, size - at, gate[0], place)
 }
 
-// Where the closed gate behind the last batch lies.
+// Where the closed gate behind the last batch lies. Each batch is whole within the file, so the
+// walk ends.
 pub(crate) fn last_gate<V: Volume>(volume: &mut V, name: Name) -> Result<u64, GateRefusal>
     requires { V.told → 16 < size_of (V.now volume.old name) }
     ensures end { V.told → IfOk result (λ end. IsEnd (V.now volume.old name) end) }
-    ensures refused { V.told → IfErr result (λ e. (e ≡ GateRefusal.Failed) ⊎ (gated (V.now volume.old name) ≡ Err e)) }
+    ensures refused { V.told → IfErr result
+        (λ e. (e ≡ GateRefusal.Failed) ⊎ (gated (V.now volume.old name) ≡ Err e)) }
     ensures bound { IfOk result (λ end. end < 2 ^ 62) }
-    ensures keeps { V.told → Keeps (V.now volume.old) (V.now volume.new) (V.may volume.old) (V.may volume.new) }
-    ensures cause { RoseWhere (IsErrOf result GateRefusal.Failed) (V.faults volume.old) (V.faults volume.new) }
+    ensures keeps { V.told → Keeps (V.now volume.old) (V.now volume.new)
+        (V.may volume.old) (V.may volume.new) }
+    ensures cause { RoseWhere (IsErrOf result GateRefusal.Failed) (V.faults volume.old)
+        (V.faults volume.new) }
 {
     let mut gate = 16;
     'gates: loop {
@@ -73,8 +84,10 @@ pub(crate) fn check_header<V: Volume>(
 ) -> Result<(), GateRefusal>
     ensures right { V.told → OnOk result (HasHeader header.now (V.now volume.old name)) }
     ensures refused { V.told → IfErr result (λ e. IsSo header.now (V.now volume.old name) e) }
-    ensures keeps { V.told → Keeps (V.now volume.old) (V.now volume.new) (V.may volume.old) (V.may volume.new) }
-    ensures cause { RoseWhere (IsErrOf result GateRefusal.Failed) (V.faults volume.old) (V.faults volume.new) }
+    ensures keeps { V.told → Keeps (V.now volume.old) (V.now volume.new)
+        (V.may volume.old) (V.may volume.new) }
+    ensures cause { RoseWhere (IsErrOf result GateRefusal.Failed) (V.faults volume.old)
+        (V.faults volume.new) }
 {
     let size = match volume.size(name)? {
         Some(size) => size,

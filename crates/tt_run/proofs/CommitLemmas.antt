@@ -3,13 +3,13 @@ use Rattle.std.proofs.Common.{◌≡◌, ◌⊎◌, inl, inr, ◌&&◌, ◌==◌
 use Rattle.tt_disk.specs.declared.volume.Name.{Name}
 use Rattle.tt_disk.specs.declared.volume.Name.TheVariants.{Log}
 use Rattle.tt_gate.specs.declared.gate.GateFile.{GateFile}
-use Rattle.std.specs.Prelude.{IsOk}
-use Rattle.tt_gate.specs.Gate.{gated, end_of}
-use Rattle.tt_gate.specs.Standing.{with_batch, staged_in, bodies_of, IsReady, LeavesFormerOrMore}
+use Rattle.tt_gate.specs.Gate.{gated}
+use Rattle.tt_gate.specs.Laws.{none_staged, more_each}
+use Rattle.tt_gate.specs.Standing.{with_batch, staged_in, LeavesFormerOrMore}
 use Rattle.tt_run.specs.Opening.{may_follow, opened, HasKeys}
 use Rattle.std.specs.BTreeSet.{contains}
 use Rattle.std.specs.Ordering.{int_cmp}
-use Rattle.tt_disk.specs.Volume.{bytes_of, size_of, IsSettled, Keeps}
+use Rattle.tt_disk.specs.Volume.{IsSettled}
 use Rattle.tt_run.specs.Rows.{Row, rows_of, has_key, has_whole_rows, are_fresh}
 use Rattle.tt_run.specs.Session.{Knows, HasRows, LeavesRows, LeavesEither}
 use Rattle.tt_run.specs.declared.session.Session.{Session}
@@ -48,31 +48,30 @@ one_batch_more before after committed own session knows is more =
     gated_opened after (bodies ++ session.batch.items ∷ []) (committed ++ own) (more ∙ ap (with_batch session.batch.items) found)
     (through_push [] 16 bodies session.batch.items committed through fits ∙ ap (λ rows. Ok (committed ++ rows)) knows.batch)
 
--- nothing was staged before
-pub none_staged : (file : GateFile) (bytes : Option (List ℕ)) (body : List ℕ) → file.staged ≡ 0 → staged_in file bytes ++ body ≡ body
-none_staged file bytes body clear = ap (λ n. take n (drop (9 + file.gate) (bytes_of bytes)) ++ body) clear
-
 -- what a crash leaves where the batch was written in part or whole
 pub either_batches : (before : Option (List ℕ)) (may may' : Option (List ℕ) → Type 0) (committed own : List Row) (session : Session) → Knows committed own session → opened before ≡ Ok committed
     → ((c : Option (List ℕ)) → may c → opened c ≡ Ok committed) → LeavesFormerOrMore may (gated before) session.batch.items may'
     → (c : Option (List ℕ)) → may' c → (opened c ≡ Ok committed) ⊎ (opened c ≡ Ok (committed ++ own))
-either_batches before may may' committed own session knows is leaves crash c left = by_case (crash c left)
-  where
-    by_case : may c ⊎ ((gated c ≡ gated before) ⊎ (gated c ≡ with_batch session.batch.items (gated before))) → (opened c ≡ Ok committed) ⊎ (opened c ≡ Ok (committed ++ own))
-    by_case (inl old) = inl (leaves c old)
-    by_case (inr (inl same)) = inl (same_batches before c committed is same)
-    by_case (inr (inr more)) = inr (one_batch_more before c committed own session knows is more)
+either_batches before may may' committed own session knows is leaves =
+    more_each (λ c. (opened c ≡ Ok committed) ⊎ (opened c ≡ Ok (committed ++ own))) may may' (gated before) session.batch.items
+    (λ c old. inl (leaves c old))
+    (λ c same. inl (same_batches before c committed is same))
+    (λ c more. inr (one_batch_more before c committed own session knows is more))
 
 pub no_items : (items : List ℕ) → (length items == 0) ≡ true → items ≡ []
 no_items [] is = refl
 no_items (x ∷ items) is = absurd (omega (arith, eqb-true (length (x ∷ items)) 0 is))
+
+-- the batch alone, where nothing was staged before
+staged_body : (file : GateFile) (bytes : Option (List ℕ)) (body : List ℕ) → file.staged ≡ 0 → staged_in file bytes ++ body ≡ body
+staged_body file bytes body clear = ap (λ (l : List ℕ). l ++ body) (none_staged file bytes clear)
 
 -- the same of the calls of a gate file whose name is the log's
 pub commit_done : (file : GateFile) (name : Name) (before after : Name → Option (List ℕ)) (body : List ℕ) (committed own : List Row) (session : Session) → name ≡ Log 0 → file.staged ≡ 0
     → body ≡ session.batch.items → gated (after name) ≡ with_batch (staged_in file (before name) ++ body) (gated (before name)) → Knows committed own session → HasRows committed before → HasRows (committed ++ own) after
 commit_done file name before after body committed own session is_log clear is done knows rows =
     let more : gated (after name) ≡ with_batch session.batch.items (gated (before name)) =
-    done ∙ ap (λ b. with_batch b (gated (before name))) (none_staged file (before name) body clear ∙ is) in
+    done ∙ ap (λ b. with_batch b (gated (before name))) (staged_body file (before name) body clear ∙ is) in
     let log : gated (after (Log 0)) ≡ with_batch session.batch.items (gated (before (Log 0))) =
     subst (λ (n : Name). gated (after n) ≡ with_batch session.batch.items (gated (before n))) is_log more in
     one_batch_more (before (Log 0)) (after (Log 0)) committed own session knows rows log
@@ -81,7 +80,7 @@ pub commit_leaves : (file : GateFile) (name : Name) (before : Name → Option (L
     → file.staged ≡ 0 → body ≡ session.batch.items → LeavesFormerOrMore (may name) (gated (before name)) (staged_in file (before name) ++ body) (may' name)
     → Knows committed own session → HasRows committed before → LeavesRows committed may → LeavesEither committed (committed ++ own) may'
 commit_leaves file name before may may' body committed own session is_log clear is crash knows rows leaves =
-    let same : staged_in file (before name) ++ body ≡ session.batch.items = none_staged file (before name) body clear ∙ is in
+    let same : staged_in file (before name) ++ body ≡ session.batch.items = staged_body file (before name) body clear ∙ is in
     let either : LeavesFormerOrMore (may name) (gated (before name)) session.batch.items (may' name) =
     subst (λ (b : List ℕ). LeavesFormerOrMore (may name) (gated (before name)) b (may' name)) same crash in
     let log : LeavesFormerOrMore (may (Log 0)) (gated (before (Log 0))) session.batch.items (may' (Log 0)) =
@@ -99,17 +98,3 @@ knows_new rows session has empty = record {
   whole = ap has_whole_rows empty;
   fresh = refl;
 }
-
--- a gate file stands as it did where a call changed no file
-pub ready_kept : (file : GateFile) (old new : Name → Option (List ℕ)) (may_old may_new : Name → Option (List ℕ) → Type 0) → Keeps old new may_old may_new → IsReady file old may_old → IsReady file new may_new
-ready_kept file old new may_old may_new keeps ready =
-    let same : new file.name ≡ old file.name = keeps.reads file.name in
-    record {
-      laid = record {
-        whole = subst (λ (o : Option (List ℕ)). IsOk (gated o)) (sym same) ready.laid.whole;
-        gate = ready.laid.gate ∙ ap (λ (o : Option (List ℕ)). end_of (bodies_of (gated o))) (sym same);
-        room = λ some. subst (λ (o : Option (List ℕ)). 9 + file.gate + file.staged ≤ size_of o) (sym same) (ready.laid.room some);
-      };
-      kept = λ is c left. ready.kept is c (keeps.crash file.name c left) ∙ ap gated (sym same);
-      begun = ready.begun;
-    }

@@ -4,13 +4,12 @@ use Rattle.std.proofs.Math.Dec.{ltb}
 use Rattle.std.proofs.lemmas.Bool.{ltb-true, eqb-true, false_from_ne_true}
 use Rattle.std.proofs.lemmas.List.{length-take-le}
 use Rattle.tt_disk.specs.Volume.{size_of, bytes_of}
-use Rattle.tt_gate.specs.Answers.{gate_of, gate_in}
-use Rattle.tt_gate.specs.Gate.{length_at}
+use Rattle.tt_gate.specs.Answers.{gate_in}
+use Rattle.tt_gate.specs.Laws.{full_gate_inside}
 use Rattle.tt_gate.specs.declared.gate.Gate.{Gate}
 use Rattle.tt_gate.specs.declared.gate.Gate.TheVariants.{Closed, Full}
 use Rattle.tt_gate.specs.declared.gate.GateRefusal.{GateRefusal}
 use Rattle.tt_gate.specs.declared.gate.GateRefusal.TheVariants.{BadBatch, Failed}
-use Rattle.tt_gate.proofs.Batches.{and_true}
 use Rattle.tt_gate.specs.Gate.{behind_body}
 use Rattle.tt_gate.specs.Steps.{bodies_at, walked_at, full_gate, bad_gate, closed_gate, full_walked}
 use Rattle.tt_run.specs.Opening.{may_follow, body_at, rows_at, rows_through, with_rows, bad_batch, IsLoaded, AreKeys}
@@ -28,39 +27,13 @@ pub file_there : (o : Option (List ℕ)) → 16 < size_of o → o ≡ Some (byte
 file_there (Some f) long = refl
 file_there None long = absurd (omega arith)
 
-abbrev full_gate_of : List ℕ → Result Gate GateRefusal
-full_gate_of rest = Ok (Full (length_at rest))
-
-abbrev bad_gate_at : ℕ → Result Gate GateRefusal
-bad_gate_at at = Err (BadBatch at)
-
-abbrev closed : Result Gate GateRefusal
-closed = Ok Closed
-
--- a batch lies within its file
-gate_long-tests : (at n : ℕ) (rest : List ℕ) (opened whole : Bool) → (ltb 0 (length_at rest) && ltb (8 + length_at rest) (length rest)) ≡ whole
-    → (if opened then (if whole then full_gate_of rest else bad_gate_at at) else closed) ≡ Ok (Full n) → 9 + n < suc (length rest)
-gate_long-tests at n rest true true w e =
-    let same : length_at rest ≡ n = cc in
-    let inside : 8 + length_at rest < length rest = ltb-true (8 + length_at rest) (length rest) (and_true (ltb 0 (length_at rest)) (ltb (8 + length_at rest) (length rest)) w).1 in
-    omega (arith, same, inside)
-gate_long-tests at n rest true false w e = cc
-gate_long-tests at n rest false whole w e = cc
-
-gate_long : (at n : ℕ) (bytes : List ℕ) → gate_of at bytes ≡ Ok (Full n) → 9 + n < length bytes
-gate_long at n [] is = cc
-gate_long at n (gate ∷ rest) is = gate_long-tests at n rest (gate == 1) (ltb 0 (length_at rest) && ltb (8 + length_at rest) (length rest)) refl is
-
-pub within_file : (at n : ℕ) (file : List ℕ) → gate_in at (Some file) ≡ Ok (Full n) → at + 9 + n < length file
-within_file at n file is = let long : 9 + n < length (drop at file) = gate_long at n (drop at file) is in omega (arith, length-drop at file)
-
 -- the answer of a gate that was read well
 pub gate_read : (result : Result Gate GateRefusal) (gate : Gate) (o : Option (List ℕ)) (at : ℕ) → 16 < size_of o → (result ≡ Err Failed) ⊎ (result ≡ gate_in at o) → result ≡ Ok gate → gate_in at (Some (bytes_of o)) ≡ Ok gate
 gate_read result gate o at long (inl failed) is = cc
 gate_read result gate o at long (inr exact) is = ap (gate_in at) (sym (file_there o long)) ∙ sym exact ∙ is
 
 pub body_long : (at n : ℕ) (file : List ℕ) → gate_in at (Some file) ≡ Ok (Full n) → length (body_at at n file) ≡ n
-body_long at n file is = length-take-le n (drop (at + 9) file) (omega (arith, within_file at n file is, length-drop (at + 9) file))
+body_long at n file is = length-take-le n (drop (at + 9) file) (omega (arith, full_gate_inside at n file is, length-drop (at + 9) file))
 
 ne_eqb : (n : ℕ) → n ≢ 0 → (n == 0) ≡ false
 ne_eqb n ne = false_from_ne_true (n == 0) (λ is. ne (eqb-true n 0 is))

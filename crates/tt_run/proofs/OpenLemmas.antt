@@ -8,46 +8,16 @@ use Rattle.std.proofs.Math.Dec.{ltb}
 use Rattle.std.proofs.lemmas.Slice.Eq.{bytes_eq-Decides}
 use Rattle.tt_gate.specs.declared.gate.GateRefusal.{GateRefusal}
 use Rattle.tt_gate.specs.declared.gate.GateRefusal.TheVariants as gate
-use Rattle.tt_gate.specs.Gate.{length_at, walked, bodies_from, behind_body, with_header, gated}
+use Rattle.tt_gate.specs.Gate.{gated}
+use Rattle.tt_gate.specs.Laws.{walked_bodies, gated_from_walk, whole_from_gated, gated_header}
 use Rattle.tt_gate.specs.Steps.{bodies_at, walked_at}
-use Rattle.tt_gate.proofs.Batches.{and_true, bool_cases, gated_long}
+use Rattle.tt_gate.proofs.Batches.{and_true, bool_cases}
 use Rattle.tt_run.specs.declared.load.OpenRefusal.{OpenRefusal}
 use Rattle.tt_run.specs.declared.load.OpenRefusal.TheVariants.{NoDatabase, Damaged}
 use Rattle.tt_run.specs.declared.status.Damage.TheVariants.{LogGap}
 use Rattle.tt_run.specs.Opening.{header, has_header, may_follow, rows_through, with_rows, rows_at, opened, Refuses, AreKeys}
 use Rattle.std.specs.BTreeSet.{BTreeSet}
 use Rattle.tt_run.specs.Rows.{Row, rows_of}
-
--- the bodies of a walk that met no damage
-abbrev one_gate : Bool → Bool → List ℕ → List (List ℕ) → List (List ℕ)
-one_gate opened whole body rest = if opened then (if whole then body ∷ rest else []) else []
-
-abbrev one_step : Bool → Bool → ℕ → List ℕ → Result (List (List ℕ)) ℕ → Result (List (List ℕ)) ℕ
-one_step opened whole at body rest = if opened then (if whole then behind_body body rest else Err at) else Ok []
-
-from_ok : (o : Result (List (List ℕ)) ℕ) (body : List ℕ) (bodies : List (List ℕ)) → behind_body body o ≡ Ok bodies
-    → (rest : List (List ℕ)) × (o ≡ Ok rest) × (bodies ≡ body ∷ rest)
-from_ok (Err at) body bodies is = cc
-from_ok (Ok rest) body bodies is = (rest, refl, cc)
-
-bodies-tests : (at : ℕ) (body : List ℕ) (opened whole : Bool) (rest : Result (List (List ℕ)) ℕ) (others bodies : List (List ℕ)) → ((more : List (List ℕ)) → rest ≡ Ok more → others ≡ more)
-    → one_step opened whole at body rest ≡ Ok bodies → one_gate opened whole body others ≡ bodies
-bodies-tests at body true true rest others bodies same e =
-    let (more, walk, split) = from_ok rest body bodies e in
-    ap (λ (l : List (List ℕ)). body ∷ l) (same more walk) ∙ sym split
-bodies-tests at body true false rest others bodies same e = cc
-bodies-tests at body false whole rest others bodies same e = cc
-
-walked_bodies : (m at : ℕ) (bytes : List ℕ) (bodies : List (List ℕ)) → walked m at bytes ≡ Ok bodies → bodies_from m bytes ≡ bodies
-walked_bodies zero at bytes bodies is = cc
-walked_bodies (suc m) at [] bodies is = cc
-walked_bodies (suc m) at (gate ∷ rest) bodies is =
-    bodies-tests at (take (length_at rest) (drop 8 rest)) (gate == 1) (ltb 0 (length_at rest) && ltb (8 + length_at rest) (length rest)) _ _ bodies
-    (λ more walk. walked_bodies m (at + 9 + length_at rest) (drop (8 + length_at rest) rest) more walk) is
-
-walk_bodies : (file : List ℕ) (bodies : List (List ℕ)) → walked_at 16 file ≡ Ok bodies → bodies_at 16 file ≡ bodies
-unfolding walked_at bodies_at
-walk_bodies file bodies is = walked_bodies (length file) 16 (drop 16 file) bodies is
 
 from_rows : (walk : Result (List (List ℕ)) ℕ) (through : Result (List Row) ℕ) (rows : List Row) → with_rows walk through ≡ Ok rows → ((bodies : List (List ℕ)) × (walk ≡ Ok bodies)) × (through ≡ Ok rows)
 from_rows (Ok bodies) (Ok found) rows is = ((bodies, refl), cc)
@@ -58,28 +28,15 @@ from_rows (Err b) (Err at) rows is = cc
 same_bytes : (xs ys : List ℕ) → bytes_eq xs ys ≡ true → xs ≡ ys
 same_bytes xs ys is = (bytes_eq-Decides xs ys).0 is
 
+abbrev found_with : List ℕ → List (List ℕ) → Result (List ℕ × List (List ℕ)) GateRefusal
+found_with first bodies = Ok (first, bodies)
+
 equal_bytes : (xs : List ℕ) → bytes_eq xs xs ≡ true
 equal_bytes xs = (bytes_eq-Decides xs xs).1 refl
 
-gated_short : (file : List ℕ) → ltb 16 (length file) ≡ false → gated (Some file) ≡ Err gate.BadHeader
-gated_short file short = rw short refl
-
-ok_pair : List ℕ → List (List ℕ) → Result (List ℕ × List (List ℕ)) GateRefusal
-ok_pair first bodies = Ok (first, bodies)
-
-gated_walk : (file : List ℕ) (bodies : List (List ℕ)) → ltb 16 (length file) ≡ true → walked_at 16 file ≡ Ok bodies → gated (Some file) ≡ ok_pair (take 16 file) bodies
-unfolding walked_at ok_pair
-gated_walk file bodies long walk = gated_long file long ∙ ap (with_header (take 16 file)) walk
-
-from_gated : (file : List ℕ) (o : Result (List (List ℕ)) ℕ) (bodies : List (List ℕ)) → with_header (take 16 file) o ≡ ok_pair header bodies → (o ≡ Ok bodies) × (take 16 file ≡ header)
-unfolding ok_pair
-from_gated file (Err at) bodies is = cc
-from_gated file (Ok found) bodies is =
-    let pairs : ◌≡◌ {A = List ℕ × List (List ℕ)} (take 16 file, found) (header, bodies) = cc in (ap (λ p. Ok (p.1)) pairs, ap (λ p. p.0) pairs)
-
 -- a log file that opens has the header, and batches whose rows those are
 pub opened_gated : (o : Option (List ℕ)) (rows : List Row) → opened o ≡ Ok rows → (bodies : List (List ℕ)) × (gated o ≡ Ok (header, bodies)) × (rows_through [] 16 bodies ≡ Ok rows)
-unfolding opened rows_at ok_pair
+unfolding opened rows_at
 opened_gated None rows is = cc
 opened_gated (Some file) rows is = by_header (has_header file) refl is
   where
@@ -88,26 +45,9 @@ opened_gated (Some file) rows is = by_header (has_header file) refl is
     by_header true head e =
         let (long, same) = and_true (ltb 16 (length file)) (bytes_eq (take 16 file) header) head in
         let ((bodies, walk), through) = from_rows (walked_at 16 file) (rows_through [] 16 (bodies_at 16 file)) rows e in
-        (bodies, gated_walk file bodies long walk ∙ ap (λ (h : List ℕ). ok_pair h bodies) (same_bytes (take 16 file) header same), ap (rows_through [] 16) (sym (walk_bodies file bodies walk)) ∙ through)
+        (bodies, gated_from_walk file bodies (ltb-true 16 (length file) long) walk ∙ ap (λ (h : List ℕ). found_with h bodies) (same_bytes (take 16 file) header same),
+            ap (rows_through [] 16) (sym (walked_bodies 16 file bodies walk)) ∙ through)
     by_header false head e = cc
-
--- and such a file opens
-pub gated_opened : (o : Option (List ℕ)) (bodies : List (List ℕ)) (rows : List Row) → gated o ≡ Ok (header, bodies) → rows_through [] 16 bodies ≡ Ok rows → opened o ≡ Ok rows
-unfolding opened rows_at ok_pair walked_at
-gated_opened None bodies rows is through = cc
-gated_opened (Some file) bodies rows is through = elim (bool_cases (ltb 16 (length file))) [
-  | inr short ↦ let bad : ◌≡◌ {A = Result (List ℕ × List (List ℕ)) GateRefusal} (Err gate.BadHeader) (Ok (header, bodies)) = sym (gated_short file short) ∙ is in cc
-  | inl long ↦
-      let (walk, head) = from_gated file (walked_at 16 file) bodies (sym (gated_long file long) ∙ is) in
-      let same : bytes_eq (take 16 file) header ≡ true = ap (λ (h : List ℕ). bytes_eq h header) head ∙ equal_bytes header in
-      let test : has_header file ≡ true = ap (λ b. b && bytes_eq (take 16 file) header) long ∙ same in
-      ap choice test ∙ ap (λ (w : Result (List (List ℕ)) ℕ). with_rows w (rows_through [] 16 (bodies_at 16 file))) walk
-      ∙ ap (λ (l : List (List ℕ)). with_rows (Ok bodies) (rows_through [] 16 l)) (walk_bodies file bodies walk)
-      ∙ ap (with_rows (Ok bodies)) through
-]
-  where
-    choice : Bool → Result (List Row) OpenRefusal
-    choice b = if b then rows_at 16 [] file else Err (Damaged (LogGap 0))
 
 -- the rows of one batch more
 abbrev choose : Bool → List Row → ℕ → List ℕ → List (List ℕ) → Result (List Row) ℕ
@@ -140,16 +80,19 @@ unfolding opened
 opened_rows None head = cc
 opened_rows (Some file) head = rw head refl
 
+-- and such a file opens
+pub gated_opened : (o : Option (List ℕ)) (bodies : List (List ℕ)) (rows : List Row) → gated o ≡ Ok (header, bodies) → rows_through [] 16 bodies ≡ Ok rows → opened o ≡ Ok rows
+unfolding rows_at
+gated_opened o bodies rows is through =
+    let whole = whole_from_gated o header bodies is in
+    ap opened whole.is ∙ opened_rows (Some whole.file) (header_there (Some whole.file) whole.long whole.header_is)
+    ∙ ap (λ (w : Result (List (List ℕ)) ℕ). with_rows w (rows_through [] 16 (bodies_at 16 whole.file))) whole.walk
+    ∙ ap (λ (l : List (List ℕ)). with_rows (Ok bodies) (rows_through [] 16 l)) (walked_bodies 16 whole.file bodies whole.walk)
+    ∙ ap (with_rows (Ok bodies)) through
+
 -- a file whose batches are whole
 pub whole_header : (o : Option (List ℕ)) (bodies : List (List ℕ)) → gated o ≡ Ok (header, bodies) → has_header (bytes_of o) ≡ true
-unfolding ok_pair
-whole_header None bodies is = cc
-whole_header (Some file) bodies is = elim (bool_cases (ltb 16 (length file))) [
-  | inr short ↦ let bad : ◌≡◌ {A = Result (List ℕ × List (List ℕ)) GateRefusal} (Err gate.BadHeader) (Ok (header, bodies)) = sym (gated_short file short) ∙ is in cc
-  | inl long ↦
-      let (walk, head) = from_gated file (walked (length file) 16 (drop 16 file)) bodies (sym (gated_long file long) ∙ is) in
-      ap (λ b. b && bytes_eq (take 16 file) header) long ∙ ap (λ (h : List ℕ). bytes_eq h header) head ∙ equal_bytes header
-]
+whole_header o bodies is = let (long, head) = gated_header o header bodies is in header_there o long head
 
 -- a torn file opens with no rows
 pub torn_opens : (o : Option (List ℕ)) (at : ℕ) (rows : List Row) → gated o ≡ Err (gate.BadBatch at) → opened o ≡ Ok rows → ⊥

@@ -2,6 +2,7 @@
 ghost use Rattle.std.specs.Prelude.{◌≡◌, codes, OnOk, Some};
 
 use super::*;
+use std::collections::BTreeSet;
 use std::test::Fail;
 
 // Makes a file of four bytes and settles it.
@@ -74,6 +75,42 @@ fn leaves_what_was_synced_or_is_pending(rt: HostRuntime) -> Result<(), Fail> {
         is_created && is_absent,
         "the log is left at some picks and not at others"
     );
+    Ok(())
+}
+
+// A write that fails is pending too: each value of its bytes and each length comes at some pick.
+#[test]
+fn leaves_each_outcome_at_some_pick(rt: HostRuntime) -> Result<(), Fail> {
+    let alloc = rt.alloc();
+    let (image, log, removed) = (Name::Ds(0), Name::Log(1), Name::SetLog(2));
+    let mut volume = MemVolume::failing_at(alloc, Vec::from_array(alloc, [3])?);
+    make(&mut volume, image)?;
+    assert_eq!(rt; volume.write_at(image, 2, b"WXYZ"), Err(Failed));
+    volume.create(log)?;
+    make(&mut volume, removed)?;
+    volume.remove(removed)?;
+
+    let mut values = BTreeSet::new(alloc);
+    let mut lengths = BTreeSet::new(alloc);
+    let (mut is_created, mut is_absent) = (false, false);
+    let (mut is_back, mut is_gone) = (false, false);
+    for pick in 2..16384 {
+        let mut left = volume.leave(alloc, pick)?;
+        let (count, bytes) = read(&mut left, image)?.ok_or("no image")?;
+        let _ = lengths.insert(count)?;
+        let _ = values.insert(bytes[2])?;
+        match left.size(log)? {
+            Some(_) => is_created = true,
+            None => is_absent = true,
+        }
+        match left.size(removed)? {
+            Some(_) => is_back = true,
+            None => is_gone = true,
+        }
+    }
+    assert_eq!(rt; (values.len(), lengths.len()), (256, 3));
+    assert!(rt; is_created && is_absent, "the created file");
+    assert!(rt; is_back && is_gone, "the removed file");
     Ok(())
 }
 

@@ -4,7 +4,8 @@ use Rattle.tt_disk.specs.Volume.{bytes_of, size_of}
 use Rattle.tt_run.specs.Opening.{IsLoaded, AddsKeys, body_at}
 use Rattle.tt_run.specs.declared.load.OpenRefusal.{OpenRefusal}
 use Rattle.tt_run.specs.Rows.{rows_of}
-use Rattle.tt_run.proofs.GateLemmas.{gate_read, within_file, not_whole, follows, file_there}
+use Rattle.tt_gate.specs.Laws.{full_gate_inside}
+use Rattle.tt_run.proofs.GateLemmas.{gate_read, not_whole, follows, file_there}
 use Rattle.tt_run.proofs.load.load_batch.Goals as goal
 
 pub returns-then-length-ne0-clause-loaded : goal.returns-then-length-ne0-clause-loaded
@@ -20,7 +21,7 @@ load_rows-requires-clause-within g c = λ told.
     let there = file_there now (c.requires.there told) in
     let full = gate_read c.gate_at.result c.in-Ok.gate now c.args.at (c.requires.there told) (c.gate_at.ensures.exact told) c.in-Ok.is ∙ ap Ok c.in-Full.is in
     let same = (c.gate_at.ensures.keeps told).reads (Log 0) in
-    omega (arith, within_file c.args.at c.in-Full.length (bytes_of now) full, ap size_of same, ap size_of there)
+    omega (arith, full_gate_inside c.args.at c.in-Full.length (bytes_of now) full, ap size_of same, ap size_of there)
 
 pub returns-then-not-fresh-clause-loaded : goal.returns-then-not-fresh-clause-loaded
 returns-then-not-fresh-clause-loaded g c = λ told rows has.

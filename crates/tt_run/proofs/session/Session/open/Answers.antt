@@ -5,7 +5,8 @@ use Rattle.tt_run.specs.Opening.{header, AreKeys, Refuses, rows_at}
 use Rattle.tt_run.proofs.OpenLemmas.{no_file, no_header, keys_refused, opened_rows, whole_header}
 use Rattle.tt_gate.specs.declared.gate.GateRefusal.{GateRefusal}
 use Rattle.tt_gate.specs.Standing.{IsSo}
-use Rattle.tt_run.proofs.CommitLemmas.{knows_new, ready_kept}
+use Rattle.tt_gate.specs.Laws.{ready_kept}
+use Rattle.tt_run.proofs.CommitLemmas.{knows_new}
 use Rattle.tt_run.proofs.session.Session.open.Goals as goal
 
 pub returns-in-Ok-load-clause-opened : goal.returns-in-Ok-load-clause-opened
