@@ -599,8 +599,18 @@ impl Picks {
         }
     }
 
+    // Any byte, which half the time is 0 or 1: a byte that closes or opens something has one of these.
+    fn any_byte(&mut self) -> u8 {
+        let number = self.number();
+        if number & 0x100 == 0 {
+            (number & 1) as u8
+        } else {
+            (number & 0xff) as u8
+        }
+    }
+
     fn byte(&mut self, source: Source, old: u8, now: Option<u8>) -> u8 {
-        let any = (self.number() & 0xff) as u8;
+        let any = self.any_byte();
         match source {
             Source::Old => old,
             Source::Now => now.unwrap_or(old),
