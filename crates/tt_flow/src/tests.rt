@@ -1,6 +1,7 @@
 use crate::{
     LineBuf, LineRead, LineReader, MemSink, MemSource, ReadSource, Sink, Source, WriteSink,
 };
+use std::io::{self, Read};
 use std::process::Abort;
 use std::test::Fail;
 
@@ -72,5 +73,29 @@ fn a_reader_and_a_writer_are_streams(rt: HostRuntime) -> Result<(), Fail> {
     assert!(rt; sink.put(line.line()).is_ok());
     drop(sink);
     assert_eq!(rt; given.as_slice(), b"onetwo".as_slice());
+    Ok(())
+}
+
+#[test]
+fn a_script_of_the_most_bytes_is_read_to_its_end(rt: HostRuntime) -> Result<(), Fail> {
+    let mut source = ReadSource::new(io::repeat(b'x').take(1 << 30));
+    let mut reader = LineReader::new();
+    let mut line = LineBuf::new();
+    assert_eq!(rt; reader.next(&mut source, &mut line), Ok(LineRead::TooLong));
+    assert_eq!(rt; reader.next(&mut source, &mut line), Ok(LineRead::End));
+    Ok(())
+}
+
+#[test]
+fn a_script_of_one_byte_more_is_too_long(rt: HostRuntime) -> Result<(), Fail> {
+    let script = b"first\n".as_slice().chain(io::repeat(b'x'));
+    let mut source = ReadSource::new(script.take((1 << 30) + 1));
+    let mut reader = LineReader::new();
+    let mut line = LineBuf::new();
+    expect_line(&rt, &mut reader, &mut source, &mut line, b"first");
+    assert_eq!(rt;
+        reader.next(&mut source, &mut line),
+        Ok(LineRead::ScriptTooLong)
+    );
     Ok(())
 }

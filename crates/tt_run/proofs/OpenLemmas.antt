@@ -44,9 +44,11 @@ opened_gated (Some file) rows is = by_header (has_header file) refl is
         → (bodies : List (List ℕ)) × (gated (Some file) ≡ Ok (header, bodies)) × (rows_through [] 16 bodies ≡ Ok rows)
     by_header true head e =
         let (long, same) = and_true (ltb 16 (length file)) (bytes_eq (take 16 file) header) head in
-        let ((bodies, walk), through) = from_rows (walked_at 16 file) (rows_through [] 16 (bodies_at 16 file)) rows e in
-        (bodies, gated_from_walk file bodies (ltb-true 16 (length file) long) walk ∙ ap (λ (h : List ℕ). found_with h bodies) (same_bytes (take 16 file) header same),
-            ap (rows_through [] 16) (sym (walked_bodies 16 file bodies walk)) ∙ through)
+        let ((bodies, walk), through) = from_rows (walked_at 16 file) (rows_through [] 16 (bodies_at 16 file)) rows e in (
+          bodies,
+          gated_from_walk file bodies (ltb-true 16 (length file) long) walk ∙ ap (λ (h : List ℕ). found_with h bodies) (same_bytes (take 16 file) header same),
+          ap (rows_through [] 16) (sym (walked_bodies 16 file bodies walk)) ∙ through,
+        )
     by_header false head e = cc
 
 -- the rows of one batch more
