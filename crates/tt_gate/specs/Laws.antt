@@ -252,3 +252,34 @@ inside_rest at n (gate ∷ rest) is = inside_by_tests at n rest (gate == 1) (ltb
 
 pub full_gate_inside : (at n : ℕ) (file : List ℕ) → gate_in at (Some file) ≡ Ok (Full n) → at + 9 + n < length file
 full_gate_inside at n file is = let long : 9 + n < length (drop at file) = inside_rest at n (drop at file) is in omega (arith, length-drop at file)
+
+-- A file that is no longer than a new one has no batch.
+
+none_by_tests : (opened whole : Bool) (at : ℕ) (body : List ℕ) (rest : Result (List (List ℕ)) ℕ) (bodies : List (List ℕ)) → whole ≡ false → gate_walk opened whole at body rest ≡ Ok bodies → bodies ≡ []
+none_by_tests true false at body rest bodies none is = cc
+none_by_tests true true at body rest bodies none is = cc
+none_by_tests false whole at body rest bodies none is = cc
+
+none_below : (k : ℕ) → ltb (8 + k) 0 ≡ false
+none_below k = by_case (ltb (8 + k) 0) refl
+  where
+    by_case : (b : Bool) → ltb (8 + k) 0 ≡ b → ltb (8 + k) 0 ≡ false
+    by_case false is = is
+    by_case true is = absurd (omega (arith, ltb-true (8 + k) 0 is))
+
+second_false : (a b : Bool) → b ≡ false → (a && b) ≡ false
+second_false true b is = is
+second_false false b is = refl
+
+none_in_one : (m at : ℕ) (bytes : List ℕ) (bodies : List (List ℕ)) → length bytes ≤ 1 → walked m at bytes ≡ Ok bodies → bodies ≡ []
+none_in_one zero at bytes bodies short is = cc
+none_in_one (suc m) at [] bodies short is = cc
+none_in_one (suc m) at (gate ∷ []) bodies short is = none_by_tests (gate == 1) (ltb 0 (length_at []) && ltb (8 + length_at []) 0) at (take (length_at []) []) (walked m (at + 9 + length_at []) (drop (8 + length_at []) [])) bodies (second_false (ltb 0 (length_at [])) (ltb (8 + length_at []) 0) (none_below (length_at []))) is
+none_in_one (suc m) at (gate ∷ next ∷ rest) bodies short is = absurd (omega (arith, short))
+
+pub none_in_short : (o : Option (List ℕ)) (header : List ℕ) (bodies : List (List ℕ)) → size_of o ≤ 17 → gated o ≡ Ok (header, bodies) → bodies ≡ []
+unfolding walked_at
+none_in_short o header bodies short is =
+    let whole = whole_from_gated o header bodies is in
+    let few : length whole.file ≤ 17 = subst (λ (p : Option (List ℕ)). size_of p ≤ 17) whole.is short in
+    none_in_one (length whole.file) 16 (drop 16 whole.file) bodies (omega (arith, few, length-drop 16 whole.file)) whole.walk

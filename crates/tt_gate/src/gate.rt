@@ -72,7 +72,7 @@ pub struct GateFile {
 
 impl GateFile {
     ghost use Rattle.std.specs.Prelude.{true};
-    ghost use Rattle.tt_gate.specs.Standing.{LeavesFormer, LeavesFormerOrMore, IsReady, LieAt, Stands, StandsSomehow, Leaves, IsSo, IsLaid, LeavesThese, LeavesOneMore, StandsStill, staged_in, with_batch};
+    ghost use Rattle.tt_gate.specs.Standing.{LeavesFormer, LeavesFormerOrMore, IsReady, LieAt, Stands, StandsSomehow, Leaves, IsSo, IsLaid, LeavesThese, LeavesAtMost, LeavesOneMore, StandsStill, staged_in, with_batch};
 
     /// Makes the file, with this header and no batch, and syncs it. A file of this name that is
     /// there is emptied first.
@@ -90,6 +90,10 @@ impl GateFile {
         ensures settled { V.told → OnOk result
             (IsSettled name (V.now volume.new) (V.may volume.new)) }
         ensures fresh { IfOk result (λ file. (file.name ≡ name) × (file.staged ≡ 0)) }
+
+        // Where it fails, a crash leaves no more than a new file has, if it couldn't leave more before.
+        ensures short { V.told → LeavesAtMost 17 (V.may volume.old name)
+            → LeavesAtMost 17 (V.may volume.new name) }
         ensures others { V.told → OnlyAt name (V.now volume.old) (V.now volume.new)
             (V.may volume.old) (V.may volume.new) }
         ensures cause { HasCause (V.faults volume.old) (V.faults volume.new) result }

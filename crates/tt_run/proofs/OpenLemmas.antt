@@ -1,5 +1,5 @@
 -- A log file that opens, and its batches.
-use Rattle.std.proofs.Common.{◌≡◌, inl, inr, ◌<◌, ◌+◌, ◌&&◌, ◌==◌, ℤ, ℕ, zero, suc, Bool, true, false, if◌then◌else◌, List, [], ◌∷◌, ◌++◌, length, take, drop, Option, Some, None, Result, Ok, Err, refl, sym, ap, ◌∙◌, arith, subst}
+use Rattle.std.proofs.Common.{◌≡◌, inl, inr, ◌<◌, ◌≤◌, ◌+◌, ◌&&◌, ℤ, ℕ, Bool, true, false, if◌then◌else◌, List, [], ◌∷◌, ◌++◌, length, take, Option, Some, None, Result, Ok, Err, refl, sym, ap, ◌∙◌, arith, subst}
 use Rattle.std.specs.Prelude.{IsSome}
 use Rattle.std.proofs.lemmas.Bool.{lt-ltb, ltb-true}
 use Rattle.tt_disk.specs.Volume.{size_of, bytes_of}
@@ -9,7 +9,7 @@ use Rattle.std.proofs.lemmas.Slice.Eq.{bytes_eq-Decides}
 use Rattle.tt_gate.specs.declared.gate.GateRefusal.{GateRefusal}
 use Rattle.tt_gate.specs.declared.gate.GateRefusal.TheVariants as gate
 use Rattle.tt_gate.specs.Gate.{gated}
-use Rattle.tt_gate.specs.Laws.{walked_bodies, gated_from_walk, whole_from_gated, gated_header}
+use Rattle.tt_gate.specs.Laws.{walked_bodies, gated_from_walk, whole_from_gated, gated_header, none_in_short}
 use Rattle.tt_gate.specs.Steps.{bodies_at, walked_at}
 use Rattle.tt_gate.proofs.Batches.{and_true, bool_cases}
 use Rattle.tt_run.specs.declared.load.OpenRefusal.{OpenRefusal}
@@ -17,6 +17,10 @@ use Rattle.tt_run.specs.declared.load.OpenRefusal.TheVariants.{NoDatabase, Damag
 use Rattle.tt_run.specs.declared.status.Damage.TheVariants.{LogGap}
 use Rattle.tt_run.specs.Opening.{header, has_header, may_follow, rows_through, with_rows, rows_at, opened, Refuses, AreKeys}
 use Rattle.std.specs.BTreeSet.{BTreeSet}
+use Rattle.tt_disk.specs.declared.volume.Name.{Name}
+use Rattle.tt_disk.specs.declared.volume.Name.TheVariants.{Log}
+use Rattle.tt_gate.specs.Standing.{LeavesAtMost}
+use Rattle.tt_run.specs.Session.{LeavesNoLog, LeavesNoRow}
 use Rattle.tt_run.specs.Rows.{Row, rows_of}
 
 from_rows : (walk : Result (List (List ℕ)) ℕ) (through : Result (List Row) ℕ) (rows : List Row) → with_rows walk through ≡ Ok rows → ((bodies : List (List ℕ)) × (walk ≡ Ok bodies)) × (through ≡ Ok rows)
@@ -130,3 +134,19 @@ keys_refused o e head refuses = subst (λ (r : Result (List Row) OpenRefusal). R
 -- a walk that ended well isn't that of a torn file
 pub keys_torn : (o : Option (List ℕ)) (at : ℕ) (set : BTreeSet ℤ) → has_header (bytes_of o) ≡ true → gated o ≡ Err (gate.BadBatch at) → AreKeys (rows_at 16 [] (bytes_of o)) (Ok set) → ⊥
 keys_torn o at set head torn (found, is, has) = torn_opens o at found torn (opened_rows o head ∙ is)
+
+-- a log file that is no longer than a new one has no row
+pub small_opens : (o : Option (List ℕ)) (rows : List Row) → size_of o ≤ 17 → opened o ≡ Ok rows → rows ≡ []
+small_opens o rows small is =
+    let (bodies, found, through) = opened_gated o rows is in
+    let none : bodies ≡ [] = none_in_short o header bodies small found in
+    let nothing : rows_through [] 16 [] ≡ Ok rows = subst (λ (l : List (List ℕ)). rows_through [] 16 l ≡ Ok rows) none through in
+    cc
+
+none_small : (o : Option (List ℕ)) → o ≡ None → size_of o ≤ 17
+none_small None is = omega arith
+none_small (Some file) is = cc
+
+-- a crash leaves no row where it could leave no log file before, and leaves no more than a new one now
+pub no_row_made : (may_old may_new : Name → Option (List ℕ) → Type 0) → (LeavesAtMost 17 (may_old (Log 0)) → LeavesAtMost 17 (may_new (Log 0))) → LeavesNoLog may_old → LeavesNoRow may_new
+no_row_made may_old may_new short none c left rows is = small_opens c rows (short (λ d before. none_small d (none d before)) c left) is

@@ -1,5 +1,5 @@
 -- A session of one script, as a list of lines and replies, and the open database that stands for it.
-use Rattle.std.specs.Prelude.{◌≡◌, ◌⊎◌, ℕ, true, if◌then◌else◌, List, [], ◌∷◌, ◌++◌, flat_map, Option, Result, Ok, Err}
+use Rattle.std.specs.Prelude.{◌≡◌, ◌⊎◌, ℕ, true, if◌then◌else◌, List, [], ◌∷◌, ◌++◌, flat_map, Option, None, Result, Ok, Err}
 use Rattle.tt_disk.specs.declared.volume.Name.{Name}
 use Rattle.tt_disk.specs.declared.volume.Name.TheVariants.{Log}
 use Rattle.tt_gate.specs.Standing.{IsReady}
@@ -83,6 +83,14 @@ HasRows rows now = opened (now (Log 0)) ≡ Ok rows
 -- a crash leaves a log file with these rows
 abbrev pub LeavesRows : List Row → (Name → Option (List ℕ) → Type 0) → Type 0
 LeavesRows rows may = (c : Option (List ℕ)) → may (Log 0) c → opened c ≡ Ok rows
+
+-- a crash leaves no log file that opens with a row
+abbrev pub LeavesNoRow : (Name → Option (List ℕ) → Type 0) → Type 0
+LeavesNoRow may = (c : Option (List ℕ)) → may (Log 0) c → (rows : List Row) → opened c ≡ Ok rows → rows ≡ []
+
+-- a crash leaves no log file
+abbrev pub LeavesNoLog : (Name → Option (List ℕ) → Type 0) → Type 0
+LeavesNoLog may = (c : Option (List ℕ)) → may (Log 0) c → c ≡ None
 
 -- a crash leaves a log file with these rows, or with those
 abbrev pub LeavesEither : List Row → List Row → (Name → Option (List ℕ) → Type 0) → Type 0

@@ -6,7 +6,7 @@ ghost use Rattle.tt_flow.specs.Reading.{HasGiven, bytes_to_come};
 ghost use Rattle.tt_run.specs.Opening.{opened};
 ghost use Rattle.tt_run.specs.Rows.{Row};
 ghost use Rattle.tt_run.specs.Runs.{HasRun, EndsRows, IsRunning, IsRunEnd, IsStep, IsNext, IsScriptEnd, IsOpenFault, status_of, IsRun, IsBeforeLines, IsFaultOf, IsCreateText, IsCreated, IsOpened};
-ghost use Rattle.tt_run.specs.Session.{Knows, IsAtRest, LeavesRows};
+ghost use Rattle.tt_run.specs.Session.{Knows, IsAtRest, LeavesRows, LeavesNoLog, LeavesNoRow};
 ghost use Rattle.tt_run.specs.Words.{form_of};
 
 use crate::load::OpenRefusal;
@@ -46,6 +46,9 @@ pub fn run<
 
     // `create DIR`, over a volume that tells its files.
     ensures created { L.told → form_of (map string_bytes words.now) ≡ Some Action.Create → IsCreated (L.now logs.old (Name.Log 0)) result (L.now logs.new) (L.may logs.new) }
+
+    // However it ends, no log file that a crash leaves has a row, if none could be left before.
+    ensures no_row { L.told → form_of (map string_bytes words.now) ≡ Some Action.Create → LeavesNoLog (L.may logs.old) → LeavesNoRow (L.may logs.new) }
     ensures create_text { form_of (map string_bytes words.now) ≡ Some Action.Create → IsCreateText (K.given sink.old) (K.given sink.new) result (sink.new ≡ sink.old) }
 
     ensures refused_create { L.told → result ≡ Status.Exists → Keeps (L.now logs.old) (L.now logs.new) (L.may logs.old) (L.may logs.new) }
@@ -92,6 +95,7 @@ pub fn run<
 
 fn create<K: Sink, L: Volume>(sink: &mut K, logs: &mut L) -> Status
     ensures created { L.told → IsCreated (L.now logs.old (Name.Log 0)) result (L.now logs.new) (L.may logs.new) }
+    ensures no_row { L.told → LeavesNoLog (L.may logs.old) → LeavesNoRow (L.may logs.new) }
     ensures refused { L.told → result ≡ Status.Exists → Keeps (L.now logs.old) (L.now logs.new) (L.may logs.old) (L.may logs.new) }
     ensures text { IsCreateText (K.given sink.old) (K.given sink.new) result (sink.new ≡ sink.old) }
     ensures statuses { result ≢ Status.Usage }
