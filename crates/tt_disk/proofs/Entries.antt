@@ -4,11 +4,12 @@ use Rattle.std.proofs.lemmas.List.{set_at, get_or_at, length-take-le, drop_more,
 use Rattle.std.proofs.lemmas.Bool.{eq-eqb, eqb-true}
 use Rattle.tt_disk.specs.declared.volume.Name.{Name}
 use Rattle.tt_disk.specs.declared.volume.Name.TheVariants.{Ds, Log, SetImage, SetLog}
-use Rattle.tt_disk.specs.declared.memory.MemFile.{MemFile}
-use Rattle.tt_disk.specs.declared.memory.Step.{Step}
-use Rattle.tt_disk.specs.declared.memory.Step.TheVariants.{Create, Write, Remove}
+use Rattle.tt_disk.specs.declared.memory.file.MemFile.{MemFile}
+use Rattle.tt_disk.specs.declared.memory.file.Step.{Step}
+use Rattle.tt_disk.specs.declared.memory.file.Step.TheVariants.{Create, Write, Remove}
 use Rattle.tt_disk.specs.Volume.{Torn, Steps, Keeps, IsSettled}
-use Rattle.tt_disk.specs.Memory.{same_name, contents, Does, Leads, file_may, found, now_of, may_of, files_now, files_may, IsAt, FileSteps}
+use Rattle.tt_disk.specs.Effects.{contents, Does, Leads}
+use Rattle.tt_disk.specs.Memory.{same_name, file_may, found, now_of, may_of, files_now, files_may, IsAt, FileSteps}
 
 torn_not : (at n : ℕ) (o : Option (List ℕ)) → Torn at n o o
 torn_not at n None = tt
@@ -163,7 +164,7 @@ now_index_or files name i at d =
 
 -- the same, for an entry that was read by its index
 module _ (files : List MemFile) (name : Name) (i : ℕ) (at : IsAt files name i) (file : MemFile) (read : file ≡ get_or files i file) where
-  file_is : at.file ≡ file
+  pub file_is : at.file ≡ file
   file_is =
       sym (get_or_at (take i files) at.file (drop (i + 1) files) file i (length-take-le i files (omega (arith, at.inside))))
       ∙ ap (λ (l : List MemFile). get_or l i file) (sym at.split) ∙ sym read
@@ -211,7 +212,7 @@ pub no_steps : (step : Option (List ℕ) → Option (List ℕ) → Type 0) (name
     → ((o : Option (List ℕ)) → step o o) → Steps step name now now may may
 no_steps step name now may same = record { reads = same (now name); crash = λ c left. (c, left, same c); others = λ n differ. refl; others_crash = λ n differ c left. left }
 
-found_push : (files : List MemFile) (file : MemFile) (n : Name) → same_name file.name n ≡ false → found (files ++ file ∷ []) n ≡ found files n
+pub found_push : (files : List MemFile) (file : MemFile) (n : Name) → same_name file.name n ≡ false → found (files ++ file ∷ []) n ≡ found files n
 found_push [] file n other = rw other refl
 found_push (f ∷ files) file n other = elim (bool_cases (same_name f.name n)) [
   | inl here ↦ rw here refl
@@ -220,7 +221,7 @@ found_push (f ∷ files) file n other = elim (bool_cases (same_name f.name n)) [
 
 -- an entry is added for a name that has none
 module _ (files : List MemFile) (name : Name) (none : found files name ≡ None) (file : MemFile) (own : file.name ≡ name) where
-  found_added : found (files ++ file ∷ []) name ≡ Some file
+  pub found_added : found (files ++ file ∷ []) name ≡ Some file
   found_added = found_behind files file [] name none (ap (λ m. same_name m name) own ∙ same_name_refl name)
 
   pub now_added : files_now (files ++ file ∷ []) name ≡ contents file.bytes

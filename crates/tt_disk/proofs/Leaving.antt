@@ -1,11 +1,17 @@
 -- What a crash leaves of the entries, one after another.
-use Rattle.std.proofs.Common.{◌≡◌, inl, inr, ℕ, ◌+◌, ◌<◌, List, [], ◌∷◌, ◌++◌, length, take, get_or, map, Option, refl, sym, ◌∙◌, ap, subst}
+use Rattle.std.proofs.Common.{◌≡◌, inl, inr, ℕ, ◌+◌, ◌<◌, Bool, true, false, arith, Some, None, List, [], ◌∷◌, ◌++◌, length, take, get_or, map, Option, refl, sym, ◌∙◌, ap, subst}
+use Rattle.std.proofs.Common.{Result, Ok, Err, Vec}
+use Rattle.std.specs.Prelude.{IfOk}
+use Rattle.std.specs.declared.alloc.Global.{Global}
 use Rattle.std.proofs.lemmas.List.{take_more, map-append}
 use Rattle.tt_disk.specs.declared.volume.Name.{Name}
-use Rattle.tt_disk.specs.declared.memory.MemFile.{MemFile}
-use Rattle.tt_disk.specs.declared.memory.Step.{Step}
-use Rattle.tt_disk.specs.Memory.{same_name, contents, Does, Leads, file_may, files_now, files_may, AreLeft}
-use Rattle.tt_disk.proofs.Entries.{bool_cases}
+use Rattle.tt_disk.specs.declared.memory.file.MemFile.{MemFile}
+use Rattle.tt_disk.specs.declared.memory.file.Step.{Step}
+use Rattle.tt_disk.specs.declared.memory.file.Step.TheVariants.{Create, Write, Remove}
+use Rattle.tt_disk.specs.Least.{was_emptied, emptied_if, least_of, least_of_any}
+use Rattle.tt_disk.specs.Effects.{contents, Does, Leads}
+use Rattle.tt_disk.specs.Memory.{same_name, file_may, found, now_of, files_now, files_may, AreLeft}
+use Rattle.tt_disk.proofs.Entries.{bool_cases, does_nothing}
 
 pub leads_on : (steps : List Step) (s : Step) (old d new : Option (List ℕ)) → Leads steps old d → Does s d new → Leads (steps ++ s ∷ []) old new
 leads_on [] s old d new same does = (new, subst (λ o. Does s o new) same does, refl)
@@ -44,22 +50,61 @@ all_left (old ∷ olds) (new ∷ news) left n =
 abbrev pub each_contents : List MemFile → List (Option (List ℕ))
 each_contents = map (λ file. contents file.bytes)
 
-pub contents_more : (files news : List MemFile) (i : ℕ) (old new : MemFile) → i < length files → old ≡ get_or files i old → each_contents news ≡ each_contents (take i files) → contents new.bytes ≡ contents old.bytes
-    → each_contents (news ++ new ∷ []) ≡ each_contents (take (i + 1) files)
-contents_more files news i old new inside read same own =
-    map-append (λ file. contents file.bytes) news (new ∷ []) ∙ ap (λ l. l ++ contents new.bytes ∷ []) same ∙ ap (λ o. each_contents (take i files) ++ o ∷ []) own
-    ∙ sym (map-append (λ file. contents file.bytes) (take i files) (old ∷ []))
-    ∙ ap each_contents (sym (take_more files i old inside ∙ ap (λ f. take i files ++ f ∷ []) (sym read)))
+-- What is left of each entry is a function of it.
+module _ (leaves : MemFile → Option (List ℕ)) where
+  pub contents_more : (files news : List MemFile) (i : ℕ) (old new : MemFile) → i < length files → old ≡ get_or files i old → each_contents news ≡ map leaves (take i files) → contents new.bytes ≡ leaves old
+      → each_contents (news ++ new ∷ []) ≡ map leaves (take (i + 1) files)
+  contents_more files news i old new inside read same own =
+      map-append (λ file. contents file.bytes) news (new ∷ []) ∙ ap (λ l. l ++ contents new.bytes ∷ []) same ∙ ap (λ o. map leaves (take i files) ++ o ∷ []) own
+      ∙ sym (map-append leaves (take i files) (old ∷ []))
+      ∙ ap (map leaves) (sym (take_more files i old inside ∙ ap (λ f. take i files ++ f ∷ []) (sym read)))
 
+  -- the same of a name that may have no entry
+  abbrev pub leaves_any : Option MemFile → Option (List ℕ)
+  leaves_any None = None
+  leaves_any (Some file) = leaves file
+
+  pub reads_left : (olds news : List MemFile) → AreLeft olds news → each_contents news ≡ map leaves olds → (n : Name) → files_now news n ≡ leaves_any (found olds n)
+  reads_left [] [] left same n = refl
+  reads_left [] (new ∷ news) left same n = absurd left
+  reads_left (old ∷ olds) [] left same n = absurd left
+  reads_left (old ∷ olds) (new ∷ news) left same n =
+      let own : contents new.bytes ≡ leaves old = cc in
+      let others : each_contents news ≡ map leaves olds = cc in
+      let rest = reads_left olds news left.3 others n in
+      elim (bool_cases (same_name old.name n)) [
+        | inl here ↦ (let there = ap (λ m. same_name m n) left.0 ∙ here in rw (here, there) own)
+        | inr other ↦ (let past = ap (λ m. same_name m n) left.0 ∙ other in rw (other, past) rest)
+      ]
+
+-- the entries as they read, and the least of each
 pub reads_same : (olds news : List MemFile) → AreLeft olds news → each_contents news ≡ each_contents olds → (n : Name) → files_now news n ≡ files_now olds n
-reads_same [] [] left same n = refl
-reads_same [] (new ∷ news) left same n = absurd left
-reads_same (old ∷ olds) [] left same n = absurd left
-reads_same (old ∷ olds) (new ∷ news) left same n =
-    let own : contents new.bytes ≡ contents old.bytes = cc in
-    let others : each_contents news ≡ each_contents olds = cc in
-    let rest = reads_same olds news left.3 others n in
-    elim (bool_cases (same_name old.name n)) [
-      | inl here ↦ (let there = ap (λ m. same_name m n) left.0 ∙ here in rw (here, there) own)
-      | inr other ↦ (let past = ap (λ m. same_name m n) left.0 ∙ other in rw (other, past) rest)
-    ]
+reads_same olds news left same n = reads_left (λ file. contents file.bytes) olds news left same n ∙ elim (found olds n) as (λ o. leaves_any (λ file. contents file.bytes) o ≡ now_of o) [ None ↦ refl | Some file ↦ refl ]
+
+pub reads_least : (olds news : List MemFile) → AreLeft olds news → each_contents news ≡ map least_of olds → (n : Name) → files_now news n ≡ least_of_any (found olds n)
+reads_least olds news left same n = reads_left least_of olds news left same n ∙ elim (found olds n) as (λ o. leaves_any least_of o ≡ least_of_any o) [ None ↦ refl | Some file ↦ refl ]
+
+-- calls none of which was done
+all_undone : (steps : List Step) (o : Option (List ℕ)) → Leads steps o o
+all_undone [] o = refl
+all_undone (s ∷ steps) o = (o, does_nothing s o, all_undone steps o)
+
+-- a call that emptied the file was done, and none of the others
+one_emptied : (there : Bool) (steps : List Step) (bytes : List ℕ) → was_emptied there steps ≡ true → Leads steps (Some bytes) (Some [])
+one_emptied there [] bytes is = cc
+one_emptied there (Create ∷ steps) bytes is = (Some [], inr ([], refl, omega arith), all_undone steps (Some []))
+one_emptied there (Write at len ∷ steps) bytes is = (Some bytes, does_nothing (Write at len) (Some bytes), one_emptied true steps bytes is)
+one_emptied there (Remove ∷ steps) bytes is = (Some bytes, inl refl, one_emptied false steps bytes is)
+
+least_leads : (steps : List Step) (o : Option (List ℕ)) (emptied : Bool) → was_emptied true steps ≡ emptied → Leads steps o (emptied_if emptied o)
+least_leads steps o false is = all_undone steps o
+least_leads steps None true is = all_undone steps None
+least_leads steps (Some bytes) true is = one_emptied true steps bytes is
+
+-- the least is left by a crash
+pub least_may : (file : MemFile) → file_may file (least_of file)
+least_may file = inr (least_leads file.steps.items (contents file.settled) (was_emptied true file.steps.items) refl)
+
+pub least_left_may : {E : Type 0} (r : Result (Option (Vec ℕ Global)) E) (file : MemFile) → IfOk r (λ left. contents left ≡ least_of file) → IfOk r (λ left. file_may file (contents left))
+least_left_may (Ok left) file is = subst (λ o. file_may file o) (sym is) (least_may file)
+least_left_may (Err e) file is = tt

@@ -1,7 +1,7 @@
 -- A step of the search for the next log.
 use Rattle.std.proofs.Common.{◌≡◌, ◌⊎◌, inl, inr, ⊎_elim, ℕ, ◌+◌, ◌<◌, ◌≤◌, true, List, length, take, get_or, Option, None}
 use Rattle.tt_disk.specs.declared.volume.Name.TheVariants.{Log}
-use Rattle.tt_disk.specs.declared.memory.MemFile.{MemFile}
+use Rattle.tt_disk.specs.declared.memory.file.MemFile.{MemFile}
 use Rattle.tt_disk.specs.Memory.{same_name, found, files_now, is_below}
 use Rattle.tt_disk.proofs.Entries.{bool_cases, none_before}
 

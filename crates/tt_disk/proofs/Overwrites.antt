@@ -4,7 +4,7 @@ use Rattle.std.specs.Prelude.{OnOk, OnErr}
 use Rattle.std.proofs.lemmas.List.{take_at, drop_at, length-take-le}
 use Rattle.std.specs.declared.alloc.Global.{Global}
 use Rattle.tt_disk.specs.Volume.{overwritten, TornBytes, Torn, size_of}
-use Rattle.tt_disk.specs.Memory.{contents}
+use Rattle.tt_disk.specs.Effects.{contents}
 
 pub overwritten_torn : (at : ℕ) (bytes f : List ℕ) → at ≤ length f → TornBytes at (length bytes) f (overwritten at bytes f)
 overwritten_torn at bytes f within =

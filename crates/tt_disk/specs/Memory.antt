@@ -1,14 +1,11 @@
 -- The files of a volume in memory, and what a crash may leave of them: each what its calls since the last sync,
 -- each done in whole, in part or not at all, make of what was there at that sync.
-use Rattle.std.specs.Prelude.{nat_lt, ◌≤◌, ◌^◌, IsSome, ◌≡◌, ◌⊎◌, ◌==◌, ◌+◌, ◌<◌, ℕ, Bool, true, false, if◌then◌else◌, List, [], ◌∷◌, ◌++◌, length, take, drop, Option, Some, None, Vec, refl}
+use Rattle.std.specs.Prelude.{nat_lt, ◌≤◌, ◌^◌, IsSome, ◌≡◌, ◌⊎◌, ◌==◌, ◌+◌, ◌<◌, ℕ, Bool, true, false, if◌then◌else◌, List, [], ◌∷◌, ◌++◌, length, take, drop, Option, Some, None, refl}
 use mathlib.Core.Logic.{inl}
-use Rattle.std.specs.declared.alloc.Global.{Global}
 use Rattle.tt_disk.specs.declared.volume.Name.{Name}
 use Rattle.tt_disk.specs.declared.volume.Name.TheVariants.{Ds, Log, SetImage, SetLog}
-use Rattle.tt_disk.specs.declared.memory.MemFile.{MemFile}
-use Rattle.tt_disk.specs.declared.memory.Step.{Step}
-use Rattle.tt_disk.specs.declared.memory.Step.TheVariants.{Create, Write, Remove}
-use Rattle.tt_disk.specs.Volume.{Torn, Created, Removed}
+use Rattle.tt_disk.specs.declared.memory.file.MemFile.{MemFile}
+use Rattle.tt_disk.specs.Effects.{contents, Leads}
 
 abbrev pub same_name : Name → Name → Bool
 same_name (Ds a) (Ds b) = a == b
@@ -16,21 +13,6 @@ same_name (Log a) (Log b) = a == b
 same_name (SetImage a) (SetImage b) = a == b
 same_name (SetLog a) (SetLog b) = a == b
 same_name _ _ = false
-
-abbrev pub contents : Option (Vec ℕ Global) → Option (List ℕ)
-contents (Some v) = Some v.items
-contents None = None
-
--- a call may have done this
-abbrev pub Does : Step → Option (List ℕ) → Option (List ℕ) → Type 0
-Does Create old new = Created old new
-Does (Write at len) old new = Torn at len old new
-Does Remove old new = Removed old new
-
--- these calls in turn may lead from the one to the other
-abbrev pub Leads : List Step → Option (List ℕ) → Option (List ℕ) → Type 0
-Leads [] old new = new ≡ old
-Leads (s ∷ steps) old new = (d : Option (List ℕ)) × Does s old d × Leads steps d new
 
 abbrev pub file_may : MemFile → Option (List ℕ) → Type 0
 file_may file c = (c ≡ contents file.bytes) ⊎ Leads file.steps.items (contents file.settled) c
@@ -72,11 +54,22 @@ pub record FileSteps (step : Option (List ℕ) → Option (List ℕ) → Type 0)
   pub reads : step (contents old.bytes) (contents new.bytes)
   pub crash : (c : Option (List ℕ)) → file_may new c → (d : Option (List ℕ)) × file_may old d × step d c
 
--- The other way round: whatever the calls before lead to is, after any such step, what the calls now lead to. The file as
--- it reads stays among it.
+-- whatever a crash could leave before it may leave now
+abbrev pub KeepsAll : (Name → Option (List ℕ) → Type 0) → (Name → Option (List ℕ) → Type 0) → Type 0
+KeepsAll may_old may_new = (n : Name) (c : Option (List ℕ)) → may_old n c → may_new n c
+
+-- the same of all files but one
+abbrev pub KeepsOthers : Name → (Name → Option (List ℕ) → Type 0) → (Name → Option (List ℕ) → Type 0) → Type 0
+KeepsOthers name may_old may_new = (n : Name) → ¬ (n ≡ name) → (c : Option (List ℕ)) → may_old n c → may_new n c
+
+-- the other way round: whatever a crash could leave before is, after any such step, what one may leave now
 pub record Reaches (step : Option (List ℕ) → Option (List ℕ) → Type 0) (old new : MemFile) : Type 0 where
-  pub crash : (d c : Option (List ℕ)) → Leads old.steps.items (contents old.settled) d → step d c → Leads new.steps.items (contents new.settled) c
-  pub reads : Leads old.steps.items (contents old.settled) (contents old.bytes) → Leads new.steps.items (contents new.settled) (contents new.bytes)
+  pub crash : (d c : Option (List ℕ)) → file_may old d → step d c → ∥ file_may new c ∥₁
+
+-- The same of a call that changes one file. Whatever a crash could leave of another one it may leave now.
+pub record ReachesAll (step : Option (List ℕ) → Option (List ℕ) → Type 0) (name : Name) (may_old may_new : Name → Option (List ℕ) → Type 0) : Type 0 where
+  pub crash : (d c : Option (List ℕ)) → may_old name d → step d c → ∥ may_new name c ∥₁
+  pub others : KeepsOthers name may_old may_new
 
 -- the number comes before the least so far, if there is one
 abbrev pub is_below : ℕ → Option ℕ → Bool

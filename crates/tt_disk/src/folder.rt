@@ -278,11 +278,13 @@ impl Folder {
 impl DirVolume {
     ghost use Rattle.std.specs.Prelude.{ℕ};
     ghost use Rattle.tt_disk.specs.Causes.{HasCause};
+    ghost use Rattle.tt_disk.specs.Folder.{folder_of, or_current};
 
     /// The volume over the folder of this path, with no faults. An empty path is the current folder. The file system
     /// is not asked, so the folder need not be there. The only error is want of memory for the path.
     pub fn new(rt: HostRuntime, alloc: Global, path: &str) -> Result<DirVolume, AllocError>
-        ensures { IfOk result (λ volume. ⟦<DirVolume as Volume>⟧.faults volume ≡ 0) }
+        ensures folder { IfOk result (λ volume. folder_of volume ≡ or_current path.now) }
+        ensures faults { IfOk result (λ volume. ⟦<DirVolume as Volume>⟧.faults volume ≡ 0) }
     {
         let path = String::from_str(alloc, if path.is_empty() { "." } else { path })?;
         let folder = Folder {

@@ -1,27 +1,18 @@
 // A volume in memory, which can fail at chosen calls.
-ghost use Rattle.std.specs.Prelude.{◌≡◌, ◌+◌, ◌-◌, ◌^◌, ◌≤◌, ◌<◌, [], ◌∷◌, ◌++◌, List, ℕ, Option, Some, None, IsSome, IsTrue, true, MatchOption, length, take, drop, OnOk, OnErr, IfOk, IfSome, option_map, map};
-ghost use Rattle.tt_disk.specs.Memory.{same_name, found, IsAt, files_now, files_may, is_below, IsLogFrom, Does, Leads, contents, file_may, AreLeft};
+ghost use Rattle.std.specs.Prelude.{◌≡◌, ◌==◌, ◌+◌, ◌-◌, ◌^◌, ◌≤◌, ◌<◌, nat_le, min, [], ◌∷◌, ◌++◌, List, ℕ, Option, Some, None, IsSome, IsOk, IsErr, IsTrue, true, false, MatchOption, length, take, drop, OnOk, OnErr, IfOk, IfSome, option_map, map};
+ghost use Rattle.tt_disk.specs.Least.{least_of, was_emptied};
+ghost use Rattle.tt_disk.specs.Effects.{Does, Leads, contents};
+ghost use Rattle.tt_disk.specs.Memory.{same_name, found, IsAt, files_now, files_may, is_below, IsLogFrom, file_may, AreLeft, ReachesAll, KeepsAll, KeepsOthers};
+ghost use Rattle.tt_disk.specs.Causes.{HasCause};
+ghost use Rattle.tt_disk.specs.Plans.{fails_by};
+ghost use Rattle.std.specs.List.{list_any};
 ghost use Rattle.tt_disk.specs.Volume.{size_of, overwritten, written, Torn, Created, Removed, TornBytes, Steps, Keeps, IsSettled, Gives, IsNextLog};
 
+mod file;
+
 use crate::{Failed, LONGEST, Name, Volume};
+use file::{MemFile, Step};
 use std::alloc::{AllocError, Global};
-
-// A call that changes a file.
-#[derive(Clone, Copy, Debug)]
-enum Step {
-    Create,
-    Write { at: u64, len: u64 },
-    Remove,
-}
-
-// A file as a read gives it, as the last sync left it, and the calls since then that changed it or may have.
-#[derive(Drop)]
-struct MemFile {
-    name: Name,
-    bytes: Option<Vec<u8>>,
-    settled: Option<Vec<u8>>,
-    steps: Vec<Step>,
-}
 
 // Which calls fail.
 #[derive(Drop)]
@@ -29,6 +20,13 @@ enum Plan {
     Never,
     From(u64),
     At(Vec<u64>),
+}
+
+// How many calls were made, and which are to fail.
+#[derive(Drop)]
+struct Calls {
+    plan: Plan,
+    made: u64,
 }
 
 /// Files in memory, with what a crash may leave of each, and with calls that fail where it is told to.
@@ -39,85 +37,8 @@ enum Plan {
 pub struct MemVolume {
     alloc: Global,
     files: Vec<MemFile>,
-    plan: Plan,
-    calls: u64,
+    calls: Calls,
     faults: u64,
-}
-
-// Writes over a file's bytes from an offset on.
-fn overwrite(content: &mut Vec<u8>, at: usize, bytes: &[u8]) -> Result<(), AllocError>
-    requires { at ≤ length content.old.items }
-    ensures ok { OnOk result (content.new.items ≡ overwritten at bytes.now content.old.items) }
-    ensures err { OnErr result (content.new.items ≡ content.old.items) }
-{
-    let room = content.len() - at;
-    if bytes.len() <= room {
-        content[at..at + bytes.len()].copy_from_slice(bytes);
-    } else {
-        content.extend_from_slice(&bytes[room..])?;
-        content[at..at + room].copy_from_slice(&bytes[..room]);
-    }
-    Ok(())
-}
-
-impl MemFile {
-    ghost use Rattle.tt_disk.specs.Memory.{contents, file_may, FileSteps, Reaches};
-
-    // Empties it. Where the call is to fail, a crash may leave it done all the same.
-    fn create(&mut self, alloc: Global, fails: bool) -> Result<(), Failed>
-        ensures done { OnOk result (contents self.new.bytes ≡ Some []) }
-        ensures steps { FileSteps Created self.old self.new }
-        ensures reaches { OnOk result (Reaches Created self.old self.new) }
-    {
-        if self.steps.push(Step::Create).is_err() || fails {
-            return Err(Failed);
-        }
-        self.bytes = Some(Vec::new(alloc));
-        Ok(())
-    }
-
-    fn write_at(&mut self, at: u64, bytes: &[u8], fails: bool) -> Result<(), Failed>
-        requires there { IsSome (contents self.old.bytes) }
-        requires within { at ≤ size_of (contents self.old.bytes) }
-        ensures done { OnOk result (contents self.new.bytes ≡ written at bytes.now (contents self.old.bytes)) }
-        ensures steps { FileSteps (Torn at (length bytes.now)) self.old self.new }
-        ensures reaches { OnOk result (Reaches (Torn at (length bytes.now)) self.old self.new) }
-    {
-        let len = bytes.len() as u64;
-        if self.steps.push(Step::Write { at, len }).is_err() || fails {
-            return Err(Failed);
-        }
-        match &mut self.bytes {
-            Some(content) => overwrite(content, at as usize, bytes).map_err(|_| Failed),
-            None => Err(Failed),
-        }
-    }
-
-    fn sync(&mut self, alloc: Global) -> Result<(), AllocError>
-        ensures name { self.new.name ≡ self.old.name }
-        ensures same { contents self.new.bytes ≡ contents self.old.bytes }
-        ensures settled { OnOk result ((c : Option (List ℕ)) → file_may self.new c → c ≡ contents self.new.bytes) }
-        ensures crash { (c : Option (List ℕ)) → file_may self.new c → file_may self.old c }
-    {
-        self.settled = match &self.bytes {
-            Some(content) => Some(content.to_vec(alloc)?),
-            None => None,
-        };
-        self.steps.clear();
-        Ok(())
-    }
-
-    fn remove(&mut self, fails: bool) -> Result<(), Failed>
-        ensures done { OnOk result (contents self.new.bytes ≡ None) }
-        ensures steps { FileSteps Removed self.old self.new }
-        ensures reaches { OnOk result (Reaches Removed self.old self.new) }
-    {
-        if self.steps.push(Step::Remove).is_err() || fails {
-            return Err(Failed);
-        }
-        self.bytes = None;
-        Ok(())
-    }
 }
 
 fn same(a: Name, b: Name) -> bool
@@ -206,6 +127,8 @@ fn create_file(
 ) -> Result<(), Failed>
     ensures done { OnOk result (files_now files.new.items name ≡ Some []) }
     ensures steps { Steps Created name (files_now files.old.items) (files_now files.new.items) (files_may files.old.items) (files_may files.new.items) }
+    ensures reaches { OnOk result (ReachesAll Created name (files_may files.old.items) (files_may files.new.items)) }
+    ensures planned { IsTrue fails → IsErr result }
 {
     match find(files, name) {
         Some(i) => files[i].create(alloc, fails),
@@ -241,6 +164,7 @@ fn read_file(files: &[MemFile], name: Name, at: u64, buf: &mut [u8]) -> Result<u
     requires within { at ≤ size_of (files_now files.now name) }
     ensures bound { IfOk result (λ n. n ≤ length buf.new) }
     ensures bytes { IfOk result (λ n. Gives (files_now files.now name) at buf.new n) }
+    ensures ok { IsOk result }
 {
     match find(files, name) {
         Some(i) => match &files[i].bytes {
@@ -263,6 +187,8 @@ fn write_file(
     ensures bound { OnOk result (at + length bytes.now ≤ 2 ^ 62) }
     ensures done { OnOk result (files_now files.new.items name ≡ written at bytes.now (files_now files.old.items name)) }
     ensures steps { Steps (Torn at (length bytes.now)) name (files_now files.old.items) (files_now files.new.items) (files_may files.old.items) (files_may files.new.items) }
+    ensures reaches { OnOk result (ReachesAll (Torn at (length bytes.now)) name (files_may files.old.items) (files_may files.new.items)) }
+    ensures planned { IsTrue fails → IsErr result }
 {
     let len = bytes.len() as u64;
     if len > LONGEST || at > LONGEST - len {
@@ -277,6 +203,8 @@ fn write_file(
 fn sync_file(alloc: Global, files: &mut Vec<MemFile>, name: Name) -> Result<(), Failed>
     ensures settled { OnOk result (IsSettled name (files_now files.new.items) (files_may files.new.items)) }
     ensures keeps { Keeps (files_now files.old.items) (files_now files.new.items) (files_may files.old.items) (files_may files.new.items) }
+    ensures others { KeepsOthers name (files_may files.old.items) (files_may files.new.items) }
+    ensures unsettled { OnErr result (KeepsAll (files_may files.old.items) (files_may files.new.items)) }
 {
     match find(files, name) {
         Some(i) => match files[i].sync(alloc) {
@@ -290,6 +218,8 @@ fn sync_file(alloc: Global, files: &mut Vec<MemFile>, name: Name) -> Result<(), 
 fn remove_file(files: &mut Vec<MemFile>, name: Name, fails: bool) -> Result<(), Failed>
     ensures done { OnOk result (files_now files.new.items name ≡ None) }
     ensures steps { Steps Removed name (files_now files.old.items) (files_now files.new.items) (files_may files.old.items) (files_may files.new.items) }
+    ensures reaches { OnOk result (ReachesAll Removed name (files_may files.old.items) (files_may files.new.items)) }
+    ensures planned { IsTrue fails → IsErr result }
 {
     match find(files, name) {
         Some(i) => files[i].remove(fails),
@@ -299,16 +229,20 @@ fn remove_file(files: &mut Vec<MemFile>, name: Name, fails: bool) -> Result<(), 
 
 impl MemVolume {
     ghost use Rattle.tt_disk.specs.Memory.{files_now};
+    ghost use Rattle.tt_disk.specs.Plans.{fails_at, calls_made};
+    ghost use Rattle.tt_disk.specs.Least.{least_left};
 
     /// A volume with no files, no calls and no faults. None of its calls fails but for want of memory.
     pub fn new(alloc: Global) -> Self
-        ensures { (n : Name) (c : Option (List ℕ)) → ⟦<MemVolume as Volume>⟧.may result n c → c ≡ None }
+        ensures empty { (n : Name) (c : Option (List ℕ)) → ⟦<MemVolume as Volume>⟧.may result n c → c ≡ None }
+        ensures plan { (number : ℕ) → fails_at result number ≡ false }
+        ensures calls { calls_made result ≡ 0 }
+        ensures faults { ⟦<MemVolume as Volume>⟧.faults result ≡ 0 }
     {
         MemVolume {
             alloc,
             files: Vec::new(alloc),
-            plan: Plan::Never,
-            calls: 0,
+            calls: Calls::new(Plan::Never),
             faults: 0,
         }
     }
@@ -316,26 +250,30 @@ impl MemVolume {
     /// A volume with no files, no calls and no faults. Its call of this number, the first being 0, and all later ones
     /// fail.
     pub fn failing_from(alloc: Global, call: u64) -> Self
-        ensures { (n : Name) (c : Option (List ℕ)) → ⟦<MemVolume as Volume>⟧.may result n c → c ≡ None }
+        ensures empty { (n : Name) (c : Option (List ℕ)) → ⟦<MemVolume as Volume>⟧.may result n c → c ≡ None }
+        ensures plan { (number : ℕ) → fails_at result number ≡ nat_le call number }
+        ensures calls { calls_made result ≡ 0 }
+        ensures faults { ⟦<MemVolume as Volume>⟧.faults result ≡ 0 }
     {
         MemVolume {
             alloc,
             files: Vec::new(alloc),
-            plan: Plan::From(call),
-            calls: 0,
+            calls: Calls::new(Plan::From(call)),
             faults: 0,
         }
     }
 
     /// A volume with no files, no calls and no faults. Its calls of these numbers fail, the first being 0.
     pub fn failing_at(alloc: Global, calls: Vec<u64>) -> Self
-        ensures { (n : Name) (c : Option (List ℕ)) → ⟦<MemVolume as Volume>⟧.may result n c → c ≡ None }
+        ensures empty { (n : Name) (c : Option (List ℕ)) → ⟦<MemVolume as Volume>⟧.may result n c → c ≡ None }
+        ensures plan { (number : ℕ) → fails_at result number ≡ list_any (λ call. call == number) calls.items }
+        ensures calls { calls_made result ≡ 0 }
+        ensures faults { ⟦<MemVolume as Volume>⟧.faults result ≡ 0 }
     {
         MemVolume {
             alloc,
             files: Vec::new(alloc),
-            plan: Plan::At(calls),
-            calls: 0,
+            calls: Calls::new(Plan::At(calls)),
             faults: 0,
         }
     }
@@ -343,32 +281,38 @@ impl MemVolume {
     /// One outcome of a crash at this moment, as a volume of its own: all of it settled, with no calls and no faults,
     /// and no call of it is to fail. This volume is unchanged. The only error is want of memory.
     ///
-    /// At pick 0 pending bytes are as the last sync left them, lengths are the least, created files are absent and
-    /// removed files are back. At pick 1 the files are as a read gives them. Any other pick makes numbers of its own,
-    /// which choose for each call since a file's last sync how much of it was done and which bytes it left; the same
-    /// pick gives the same outcome.
+    /// At pick 0 each file is as its last sync left it, cut to the least length since: created files are absent, removed
+    /// files are back, and one that was emptied has no bytes. At pick 1 the files are as a read gives them. Any other
+    /// pick makes numbers of its own, which choose for each call since a file's last sync how much of it was done and
+    /// which bytes it left; the same pick gives the same outcome.
     pub fn leave(&self, alloc: Global, pick: u64) -> Result<MemVolume, AllocError>
         ensures left { IfOk result (λ left. (n : Name) → ⟦<MemVolume as Volume>⟧.may self.now n (⟦<MemVolume as Volume>⟧.now left n)) }
         ensures settled { IfOk result (λ left. (n : Name) → IsSettled n (⟦<MemVolume as Volume>⟧.now left) (⟦<MemVolume as Volume>⟧.may left)) }
+        ensures least { pick ≡ 0 → IfOk result (λ left. (n : Name) → ⟦<MemVolume as Volume>⟧.now left n ≡ least_left self.now n) }
         ensures as_read { pick ≡ 1 → IfOk result (λ left. (n : Name) → ⟦<MemVolume as Volume>⟧.now left n ≡ ⟦<MemVolume as Volume>⟧.now self.now n) }
+        ensures plan { IfOk result (λ left. (number : ℕ) → fails_at left number ≡ false) }
+        ensures calls { IfOk result (λ left. calls_made left ≡ 0) }
+        ensures faults { IfOk result (λ left. ⟦<MemVolume as Volume>⟧.faults left ≡ 0) }
     {
         Ok(MemVolume {
             alloc,
             files: left_files(alloc, &self.files, pick)?,
-            plan: Plan::Never,
-            calls: 0,
+            calls: Calls::new(Plan::Never),
             faults: 0,
         })
     }
 
     /// How many calls of `Volume` were made, those that failed included. It stops at the greatest `u64`.
-    pub fn calls(&self) -> u64 {
-        self.calls
+    pub fn calls(&self) -> u64
+        ensures { result ≡ calls_made self.now }
+    {
+        self.calls.made
     }
 }
 
 fn left_files(alloc: Global, files: &[MemFile], pick: u64) -> Result<Vec<MemFile>, AllocError>
     ensures left { IfOk result (λ left. AreLeft files.now left.items) }
+    ensures least { pick ≡ 0 → IfOk result (λ left. map (λ file. contents file.bytes) left.items ≡ map least_of files.now) }
     ensures as_read { pick ≡ 1 → IfOk result (λ left. map (λ file. contents file.bytes) left.items ≡ map (λ file. contents file.bytes) files.now) }
 {
     let mut left = Vec::new(alloc);
@@ -382,10 +326,13 @@ fn left_file(alloc: Global, file: &MemFile, pick: u64, index: u64) -> Result<Mem
     ensures name { IfOk result (λ left. left.name ≡ file.now.name) }
     ensures left { IfOk result (λ left. file_may file.now (contents left.bytes)) }
     ensures settled { IfOk result (λ left. (c : Option (List ℕ)) → file_may left c → c ≡ contents left.bytes) }
+    ensures least { pick ≡ 0 → IfOk result (λ left. contents left.bytes ≡ least_of file.now) }
     ensures as_read { pick ≡ 1 → IfOk result (λ left. contents left.bytes ≡ contents file.now.bytes) }
 {
     let bytes = if pick == 1 {
         copied(alloc, &file.bytes)?
+    } else if pick == 0 {
+        least(alloc, file)?
     } else {
         after_steps(
             alloc,
@@ -402,6 +349,36 @@ fn left_file(alloc: Global, file: &MemFile, pick: u64, index: u64) -> Result<Mem
         settled,
         steps: Vec::new(alloc),
     })
+}
+
+fn least(alloc: Global, file: &MemFile) -> Result<Option<Vec<u8>>, AllocError>
+    ensures least { IfOk result (λ left. contents left ≡ least_of file.now) }
+    ensures left { IfOk result (λ left. file_may file.now (contents left)) }
+{
+    if file.settled.is_some() && was_emptied(&file.steps) {
+        Ok(Some(Vec::new(alloc)))
+    } else {
+        copied(alloc, &file.settled)
+    }
+}
+
+// Whether these calls emptied a file that was there before them. One that was removed and made again was not.
+fn was_emptied(steps: &[Step]) -> bool
+    ensures { result ≡ was_emptied true steps.now }
+{
+    let mut is_there = true;
+    for step in steps {
+        match step {
+            Step::Create => if is_there {
+                return true;
+            } else {
+                is_there = true;
+            },
+            Step::Write { .. } => is_there = true,
+            Step::Remove => is_there = false,
+        }
+    }
+    false
 }
 
 fn bytes_of(content: &Option<Vec<u8>>) -> &[u8] {
@@ -537,26 +514,21 @@ enum Source {
     Mixed,
 }
 
-// Numbers to pick a crash's outcome by, each made from the one before. At pick 0 they are all 0, which is the least.
+// Numbers to pick a crash's outcome by, each made from the one before.
 #[derive(Drop)]
 struct Picks {
-    is_least: bool,
     state: u64,
 }
 
 impl Picks {
     fn new(pick: u64, index: u64) -> Picks {
         Picks {
-            is_least: pick == 0,
             state: pick.wrapping_mul(0xbf58_476d_1ce4_e5b9)
                 ^ index.wrapping_mul(0xd1b5_4a32_d192_ed03),
         }
     }
 
     fn number(&mut self) -> u64 {
-        if self.is_least {
-            return 0;
-        }
         self.state = self.state.wrapping_add(0x9e37_79b9_7f4a_7c15);
         let mixed = (self.state ^ (self.state >> 30)).wrapping_mul(0xbf58_476d_1ce4_e5b9);
         let mixed = (mixed ^ (mixed >> 27)).wrapping_mul(0x94d0_49bb_1331_11eb);
@@ -624,18 +596,34 @@ impl Picks {
     }
 }
 
-// Whether the call of this number is to fail.
-fn fails(plan: &Plan, call: u64) -> bool {
-    match plan {
-        Plan::Never => false,
-        Plan::From(first) => call >= *first,
-        Plan::At(calls) => calls.contains(&call),
+impl Calls {
+    fn new(plan: Plan) -> Calls
+        ensures plan { result.plan ≡ plan }
+        ensures made { result.made ≡ 0 }
+    {
+        Calls { plan, made: 0 }
+    }
+
+    // Counts a call, and says whether it is to fail.
+    fn begin(&mut self) -> bool
+        ensures fails { result ≡ fails_by self.old.plan self.old.made }
+        ensures plan { self.new.plan ≡ self.old.plan }
+        ensures made { self.new.made ≡ min (self.old.made + 1) (2 ^ 64 - 1) }
+    {
+        let fails = match &self.plan {
+            Plan::Never => false,
+            Plan::From(first) => self.made >= *first,
+            Plan::At(calls) => calls.contains(&self.made),
+        };
+        self.made = self.made.saturating_add(1);
+        fails
     }
 }
 
 impl Volume for MemVolume {
     ghost use Rattle.std.specs.Prelude.{ℕ};
     ghost use Rattle.tt_disk.specs.Memory.{files_now, files_may, found, now_may};
+    ghost use Rattle.tt_disk.specs.Plans.{fails_next, IsCounted};
 
     ghost told = { Unit {0} };
 
@@ -647,9 +635,16 @@ impl Volume for MemVolume {
 
     ghost reads = { λ _ m name. now_may (found m.files.items name) };
 
-    fn size(&mut self, name: Name) -> Result<Option<u64>, Failed> {
-        let fails = fails(&self.plan, self.calls);
-        self.calls = self.calls.saturating_add(1);
+    fn size(&mut self, name: Name) -> Result<Option<u64>, Failed>
+        ensures bound { IfOk result (λ o. IfSome o (λ n. n ≤ 2 ^ 62)) }
+        ensures size { IfOk result (λ o. o ≡ option_map length (⟦<MemVolume as Volume>⟧.now self.old name)) }
+        ensures keeps { Keeps (⟦<MemVolume as Volume>⟧.now self.old) (⟦<MemVolume as Volume>⟧.now self.new) (⟦<MemVolume as Volume>⟧.may self.old) (⟦<MemVolume as Volume>⟧.may self.new) }
+        ensures reaches { KeepsAll (⟦<MemVolume as Volume>⟧.may self.old) (⟦<MemVolume as Volume>⟧.may self.new) }
+        ensures cause { HasCause (⟦<MemVolume as Volume>⟧.faults self.old) (⟦<MemVolume as Volume>⟧.faults self.new) result }
+        ensures counted { IsCounted self.old self.new result }
+        ensures unplanned { fails_next self.old ≡ false → size_of (⟦<MemVolume as Volume>⟧.now self.old name) ≤ 2 ^ 62 → IsOk result }
+    {
+        let fails = self.calls.begin();
         let size = size_file(&self.files, name);
         if fails || size.is_some_and(|size| size > LONGEST) {
             self.faults = self.faults.saturating_add(1);
@@ -658,9 +653,16 @@ impl Volume for MemVolume {
         Ok(size)
     }
 
-    fn next_log(&mut self, from: u32) -> Result<Option<u32>, Failed> {
-        let fails = fails(&self.plan, self.calls);
-        self.calls = self.calls.saturating_add(1);
+    fn next_log(&mut self, from: u32) -> Result<Option<u32>, Failed>
+        ensures bound { IfOk result (λ o. IfSome o (λ n. from ≤ n)) }
+        ensures next { IfOk result (λ o. IsNextLog (⟦<MemVolume as Volume>⟧.now self.old) from o) }
+        ensures keeps { Keeps (⟦<MemVolume as Volume>⟧.now self.old) (⟦<MemVolume as Volume>⟧.now self.new) (⟦<MemVolume as Volume>⟧.may self.old) (⟦<MemVolume as Volume>⟧.may self.new) }
+        ensures reaches { KeepsAll (⟦<MemVolume as Volume>⟧.may self.old) (⟦<MemVolume as Volume>⟧.may self.new) }
+        ensures cause { HasCause (⟦<MemVolume as Volume>⟧.faults self.old) (⟦<MemVolume as Volume>⟧.faults self.new) result }
+        ensures counted { IsCounted self.old self.new result }
+        ensures unplanned { fails_next self.old ≡ false → IsOk result }
+    {
+        let fails = self.calls.begin();
         if fails {
             self.faults = self.faults.saturating_add(1);
             return Err(Failed);
@@ -668,9 +670,14 @@ impl Volume for MemVolume {
         Ok(next_file(&self.files, from))
     }
 
-    fn create(&mut self, name: Name) -> Result<(), Failed> {
-        let fails = fails(&self.plan, self.calls);
-        self.calls = self.calls.saturating_add(1);
+    fn create(&mut self, name: Name) -> Result<(), Failed>
+        ensures created { OnOk result (⟦<MemVolume as Volume>⟧.now self.new name ≡ Some []) }
+        ensures steps { Steps Created name (⟦<MemVolume as Volume>⟧.now self.old) (⟦<MemVolume as Volume>⟧.now self.new) (⟦<MemVolume as Volume>⟧.may self.old) (⟦<MemVolume as Volume>⟧.may self.new) }
+        ensures reaches { OnOk result (ReachesAll Created name (⟦<MemVolume as Volume>⟧.may self.old) (⟦<MemVolume as Volume>⟧.may self.new)) }
+        ensures cause { HasCause (⟦<MemVolume as Volume>⟧.faults self.old) (⟦<MemVolume as Volume>⟧.faults self.new) result }
+        ensures counted { IsCounted self.old self.new result }
+    {
+        let fails = self.calls.begin();
         let result = create_file(self.alloc, &mut self.files, name, fails);
         if result.is_err() {
             self.faults = self.faults.saturating_add(1);
@@ -678,9 +685,18 @@ impl Volume for MemVolume {
         result
     }
 
-    fn read_at(&mut self, name: Name, at: u64, buf: &mut [u8]) -> Result<usize, Failed> {
-        let fails = fails(&self.plan, self.calls);
-        self.calls = self.calls.saturating_add(1);
+    fn read_at(&mut self, name: Name, at: u64, buf: &mut [u8]) -> Result<usize, Failed>
+        requires there { IsSome (⟦<MemVolume as Volume>⟧.now self.old name) }
+        requires within { at ≤ size_of (⟦<MemVolume as Volume>⟧.now self.old name) }
+        ensures bound { IfOk result (λ n. n ≤ length buf.new) }
+        ensures bytes { IfOk result (λ n. Gives (⟦<MemVolume as Volume>⟧.now self.old name) at buf.new n) }
+        ensures keeps { Keeps (⟦<MemVolume as Volume>⟧.now self.old) (⟦<MemVolume as Volume>⟧.now self.new) (⟦<MemVolume as Volume>⟧.may self.old) (⟦<MemVolume as Volume>⟧.may self.new) }
+        ensures reaches { KeepsAll (⟦<MemVolume as Volume>⟧.may self.old) (⟦<MemVolume as Volume>⟧.may self.new) }
+        ensures cause { HasCause (⟦<MemVolume as Volume>⟧.faults self.old) (⟦<MemVolume as Volume>⟧.faults self.new) result }
+        ensures counted { IsCounted self.old self.new result }
+        ensures unplanned { fails_next self.old ≡ false → IsOk result }
+    {
+        let fails = self.calls.begin();
         if fails {
             self.faults = self.faults.saturating_add(1);
             return Err(Failed);
@@ -692,9 +708,17 @@ impl Volume for MemVolume {
         result
     }
 
-    fn write_at(&mut self, name: Name, at: u64, bytes: &[u8]) -> Result<(), Failed> {
-        let fails = fails(&self.plan, self.calls);
-        self.calls = self.calls.saturating_add(1);
+    fn write_at(&mut self, name: Name, at: u64, bytes: &[u8]) -> Result<(), Failed>
+        requires there { IsSome (⟦<MemVolume as Volume>⟧.now self.old name) }
+        requires within { at ≤ size_of (⟦<MemVolume as Volume>⟧.now self.old name) }
+        ensures bound { OnOk result (at + length bytes.now ≤ 2 ^ 62) }
+        ensures written { OnOk result (⟦<MemVolume as Volume>⟧.now self.new name ≡ written at bytes.now (⟦<MemVolume as Volume>⟧.now self.old name)) }
+        ensures steps { Steps (Torn at (length bytes.now)) name (⟦<MemVolume as Volume>⟧.now self.old) (⟦<MemVolume as Volume>⟧.now self.new) (⟦<MemVolume as Volume>⟧.may self.old) (⟦<MemVolume as Volume>⟧.may self.new) }
+        ensures reaches { OnOk result (ReachesAll (Torn at (length bytes.now)) name (⟦<MemVolume as Volume>⟧.may self.old) (⟦<MemVolume as Volume>⟧.may self.new)) }
+        ensures cause { HasCause (⟦<MemVolume as Volume>⟧.faults self.old) (⟦<MemVolume as Volume>⟧.faults self.new) result }
+        ensures counted { IsCounted self.old self.new result }
+    {
+        let fails = self.calls.begin();
         let result = write_file(&mut self.files, name, at, bytes, fails);
         if result.is_err() {
             self.faults = self.faults.saturating_add(1);
@@ -702,9 +726,16 @@ impl Volume for MemVolume {
         result
     }
 
-    fn sync(&mut self, name: Name) -> Result<(), Failed> {
-        let fails = fails(&self.plan, self.calls);
-        self.calls = self.calls.saturating_add(1);
+    fn sync(&mut self, name: Name) -> Result<(), Failed>
+        requires there { IsSome (⟦<MemVolume as Volume>⟧.now self.old name) }
+        ensures settled { OnOk result (IsSettled name (⟦<MemVolume as Volume>⟧.now self.new) (⟦<MemVolume as Volume>⟧.may self.new)) }
+        ensures keeps { Keeps (⟦<MemVolume as Volume>⟧.now self.old) (⟦<MemVolume as Volume>⟧.now self.new) (⟦<MemVolume as Volume>⟧.may self.old) (⟦<MemVolume as Volume>⟧.may self.new) }
+        ensures others { KeepsOthers name (⟦<MemVolume as Volume>⟧.may self.old) (⟦<MemVolume as Volume>⟧.may self.new) }
+        ensures unsettled { OnErr result (KeepsAll (⟦<MemVolume as Volume>⟧.may self.old) (⟦<MemVolume as Volume>⟧.may self.new)) }
+        ensures cause { HasCause (⟦<MemVolume as Volume>⟧.faults self.old) (⟦<MemVolume as Volume>⟧.faults self.new) result }
+        ensures counted { IsCounted self.old self.new result }
+    {
+        let fails = self.calls.begin();
         if fails {
             self.faults = self.faults.saturating_add(1);
             return Err(Failed);
@@ -716,9 +747,15 @@ impl Volume for MemVolume {
         result
     }
 
-    fn remove(&mut self, name: Name) -> Result<(), Failed> {
-        let fails = fails(&self.plan, self.calls);
-        self.calls = self.calls.saturating_add(1);
+    fn remove(&mut self, name: Name) -> Result<(), Failed>
+        requires there { IsSome (⟦<MemVolume as Volume>⟧.now self.old name) }
+        ensures removed { OnOk result (⟦<MemVolume as Volume>⟧.now self.new name ≡ None) }
+        ensures steps { Steps Removed name (⟦<MemVolume as Volume>⟧.now self.old) (⟦<MemVolume as Volume>⟧.now self.new) (⟦<MemVolume as Volume>⟧.may self.old) (⟦<MemVolume as Volume>⟧.may self.new) }
+        ensures reaches { OnOk result (ReachesAll Removed name (⟦<MemVolume as Volume>⟧.may self.old) (⟦<MemVolume as Volume>⟧.may self.new)) }
+        ensures cause { HasCause (⟦<MemVolume as Volume>⟧.faults self.old) (⟦<MemVolume as Volume>⟧.faults self.new) result }
+        ensures counted { IsCounted self.old self.new result }
+    {
+        let fails = self.calls.begin();
         let result = remove_file(&mut self.files, name, fails);
         if result.is_err() {
             self.faults = self.faults.saturating_add(1);

@@ -34,9 +34,10 @@ impl LineBuf {
         }
     }
 
-    /// The last line.
+    /// The last line, of at most 4,096 bytes.
     pub fn line(&self) -> &[u8]
-        ensures { result.now ≡ self.now }
+        ensures line { result.now ≡ self.now }
+        ensures short { length result.now ≤ 4096 }
     {
         &self.bytes[..self.length]
     }

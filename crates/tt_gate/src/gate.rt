@@ -72,7 +72,7 @@ pub struct GateFile {
 
 impl GateFile {
     ghost use Rattle.std.specs.Prelude.{true};
-    ghost use Rattle.tt_gate.specs.Standing.{LeavesFormer, LeavesFormerOrMore, IsReady, LieAt, Stands, StandsSomehow, Leaves, IsSo, IsLaid, LeavesThese, LeavesAtMost, LeavesOneMore, StandsStill, staged_in, with_batch};
+    ghost use Rattle.tt_gate.specs.Standing.{LeavesFormer, LeavesFormerOrMore, IsReady, IsSynced, LieAt, Stands, StandsSomehow, Leaves, IsSo, IsLaid, LeavesThese, LeavesAtMost, LeavesOneMore, StandsStill, staged_in, with_batch};
 
     /// Makes the file, with this header and no batch, and syncs it. A file of this name that is
     /// there is emptied first.
@@ -90,6 +90,7 @@ impl GateFile {
         ensures settled { V.told → OnOk result
             (IsSettled name (V.now volume.new) (V.may volume.new)) }
         ensures fresh { IfOk result (λ file. (file.name ≡ name) × (file.staged ≡ 0)) }
+        ensures synced { IfOk result (λ file. IsSynced file) }
 
         // Where it fails, a crash leaves no more than a new file has, if it couldn't leave more before.
         ensures short { V.told → LeavesAtMost 17 (V.may volume.old name)
@@ -235,6 +236,7 @@ impl GateFile {
         ensures name { self.new.name ≡ self.old.name }
         ensures gate { self.new.gate ≡ self.old.gate }
         ensures count { OnOk result (self.new.staged ≡ self.old.staged + length piece.now) }
+        ensures synced { OnOk result (IsSynced self.new) }
         ensures still { OnErr result (StandsStill self.old self.new) }
         ensures cause { HasCause (V.faults volume.old) (V.faults volume.new) result }
     {
@@ -265,6 +267,7 @@ impl GateFile {
             (V.may volume.old) (V.may volume.new) }
         ensures name { self.new.name ≡ self.old.name }
         ensures fresh { OnOk result (self.new.staged ≡ 0) }
+        ensures synced { IsSynced self.old → IsSynced self.new }
         ensures still { OnErr result (StandsStill self.old self.new) }
         ensures cause { HasCause (V.faults volume.old) (V.faults volume.new) result }
     {
@@ -297,6 +300,7 @@ impl GateFile {
             (V.may volume.old) (V.may volume.new) }
         ensures name { self.new.name ≡ self.old.name }
         ensures fresh { OnOk result (self.new.staged ≡ 0) }
+        ensures synced { OnOk result (IsSynced self.new) }
 
         // What was staged before is still staged, and the body too or not.
         ensures still { OnErr result ((self.new.gate ≡ self.old.gate)

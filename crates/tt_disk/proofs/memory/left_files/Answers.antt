@@ -1,6 +1,8 @@
 use Rattle.std.proofs.Common.{◌≡◌, ◌++◌, [], ◌∷◌, sym, ◌∙◌, ap, subst, arith, take, ◌+◌}
 use Rattle.std.proofs.lemmas.Grind.{common_steps}
+use Rattle.tt_disk.specs.Effects.{contents}
 use Rattle.tt_disk.specs.Memory.{AreLeft}
+use Rattle.tt_disk.specs.Least.{least_of}
 use Rattle.tt_disk.proofs.Leaving.{left_more, contents_more, each_contents}
 use Rattle.tt_disk.proofs.memory.left_files.Goals as goal
 
@@ -10,6 +12,8 @@ loop-i-preserved c =
     record {
       left = subst (λ l. AreLeft (take (c.loop-i.i + 1) c.args.files.now) l) (sym pushed)
           (left_more c.args.files.now c.loop-i.left.items c.loop-i.i c.index-files-i.result c.in_ok-left_file.field-0 c.loop-i-test.true c.index-files-i.is c.loop-i.invariant.left c.in_ok-left_file.ensures.name c.in_ok-left_file.ensures.left c.in_ok-left_file.ensures.settled);
+      least = λ none. ap each_contents pushed
+          ∙ contents_more least_of c.args.files.now c.loop-i.left.items c.loop-i.i c.index-files-i.result c.in_ok-left_file.field-0 c.loop-i-test.true c.index-files-i.is (c.loop-i.invariant.least none) (c.in_ok-left_file.ensures.least none);
       as_read = λ one. ap each_contents pushed
-          ∙ contents_more c.args.files.now c.loop-i.left.items c.loop-i.i c.index-files-i.result c.in_ok-left_file.field-0 c.loop-i-test.true c.index-files-i.is (c.loop-i.invariant.as_read one) (c.in_ok-left_file.ensures.as_read one);
+          ∙ contents_more (λ file. contents file.bytes) c.args.files.now c.loop-i.left.items c.loop-i.i c.index-files-i.result c.in_ok-left_file.field-0 c.loop-i-test.true c.index-files-i.is (c.loop-i.invariant.as_read one) (c.in_ok-left_file.ensures.as_read one);
     }

@@ -1,6 +1,7 @@
 use Rattle.std.proofs.Common.{◌≤◌, sym, ◌∙◌, ap, subst, length, Some, arith}
+use Rattle.std.specs.Prelude.{IsSome}
 use Rattle.tt_disk.specs.Volume.{size_of, Gives}
-use Rattle.tt_disk.specs.Memory.{contents}
+use Rattle.tt_disk.specs.Effects.{contents}
 use Rattle.tt_disk.proofs.Entries.{now_index_or}
 use Rattle.tt_disk.proofs.memory.read_file.Goals as goal
 
@@ -14,3 +15,8 @@ pub returns-in-Some-bytes-clause-bytes : goal.returns-in-Some-bytes-clause-bytes
 returns-in-Some-bytes-clause-bytes c =
     let is = now_index_or c.args.files.now c.args.name c.in-Some.i c.in-Some.ensures c.index-files-i.result ∙ ap contents c.in-Some-bytes.is in
     subst (λ o. Gives o c.args.at c.read_content.new.buf c.read_content.result) (ap (λ l. Some l) c.deref.ensures.value ∙ sym is) c.read_content.ensures.bytes
+
+pub returns-in-None-bytes-clause-ok : goal.returns-in-None-bytes-clause-ok
+returns-in-None-bytes-clause-ok c =
+    let is = now_index_or c.args.files.now c.args.name c.in-Some.i c.in-Some.ensures c.index-files-i.result ∙ ap contents c.in-None-bytes.is in
+    subst (λ o. IsSome o) is c.requires.there

@@ -1,6 +1,7 @@
 use Rattle.std.proofs.Common.{subst}
 use Rattle.tt_disk.specs.Memory.{IsAt}
 use Rattle.tt_disk.proofs.Entries.{settled_set, keeps_set}
+use Rattle.tt_disk.proofs.Reaching.{others_index, keeps_all_index}
 use Rattle.tt_disk.proofs.memory.sync_file.Goals as goal
 
 pub returns-in-Ok-clause-settled : goal.returns-in-Ok-clause-settled
@@ -17,3 +18,18 @@ pub returns-in-Err-clause-keeps : goal.returns-in-Err-clause-keeps
 returns-in-Err-clause-keeps c =
     let at = subst (λ l. IsAt l c.args.name c.in-Some.i) c.deref.ensures.value c.in-Some.ensures in
     keeps_set c.args.files.now.items c.args.name c.in-Some.i at _ c.index_mut.ensures.value _ c.sync.ensures.name c.sync.ensures.same c.sync.ensures.crash
+
+pub returns-in-Ok-clause-others : goal.returns-in-Ok-clause-others
+returns-in-Ok-clause-others c =
+    let at = subst (λ l. IsAt l c.args.name c.in-Some.i) c.deref.ensures.value c.in-Some.ensures in
+    others_index c.args.files.now.items c.args.name c.in-Some.i at _ c.index_mut.ensures.value _ c.sync.ensures.name
+
+pub returns-in-Err-clause-others : goal.returns-in-Err-clause-others
+returns-in-Err-clause-others c =
+    let at = subst (λ l. IsAt l c.args.name c.in-Some.i) c.deref.ensures.value c.in-Some.ensures in
+    others_index c.args.files.now.items c.args.name c.in-Some.i at _ c.index_mut.ensures.value _ c.sync.ensures.name
+
+pub returns-in-Err-clause-unsettled : goal.returns-in-Err-clause-unsettled
+returns-in-Err-clause-unsettled c =
+    let at = subst (λ l. IsAt l c.args.name c.in-Some.i) c.deref.ensures.value c.in-Some.ensures in
+    keeps_all_index c.args.files.now.items c.args.name c.in-Some.i at _ c.index_mut.ensures.value _ c.sync.ensures.name c.in-Err.ensures.unsettled

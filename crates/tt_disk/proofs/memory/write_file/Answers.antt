@@ -4,6 +4,7 @@ use Rattle.std.specs.Prelude.{IsSome}
 use Rattle.tt_disk.specs.Volume.{Torn, written, size_of}
 use Rattle.tt_disk.specs.Memory.{IsAt}
 use Rattle.tt_disk.proofs.Entries.{now_index, now_set, steps_index}
+use Rattle.tt_disk.proofs.Reaching.{reaches_index}
 use Rattle.tt_disk.proofs.memory.write_file.Goals as goal
 
 pub write_at-requires-clause-there : goal.write_at-requires-clause-there
@@ -27,3 +28,8 @@ pub returns-in-Some-clause-steps : goal.returns-in-Some-clause-steps
 returns-in-Some-clause-steps c =
     let at = subst (λ l. IsAt l c.args.name c.in-Some.i) c.deref.ensures.value c.in-Some.ensures in
     steps_index c.args.files.now.items c.args.name c.in-Some.i at _ c.index_mut.ensures.value (Torn c.args.at (length c.args.bytes.now)) _ c.write_at.ensures.steps
+
+pub returns-in-Some-clause-reaches : goal.returns-in-Some-clause-reaches
+returns-in-Some-clause-reaches c =
+    let at = subst (λ l. IsAt l c.args.name c.in-Some.i) c.deref.ensures.value c.in-Some.ensures in
+    on_ok_weaker c.write_at.result (λ reaches. reaches_index c.args.files.now.items c.args.name c.in-Some.i at _ c.index_mut.ensures.value _ c.write_at.ensures.steps.name (Torn c.args.at (length c.args.bytes.now)) reaches) c.write_at.ensures.reaches
