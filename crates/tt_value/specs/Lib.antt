@@ -1,0 +1,13 @@
+pub mod Names
+pub mod OrderLaws
+pub mod Orders
+pub mod Positions
+pub mod ReadingRows
+pub mod Refusals
+pub mod Same
+pub mod SameLaws
+pub mod Stored
+pub mod StoredLaws
+pub mod Truths
+pub mod WordLaws
+pub mod Words

@@ -1,0 +1,57 @@
+-- A number is read back from its bytes, and bytes from their number.
+use Rattle.std.proofs.Common.{◌≡◌, ◌<◌, ◌≤◌, ◌+◌, ◌^◌, ℕ, zero, suc, List, [], ◌∷◌, ◌++◌, length, take, drop, get_or, refl, sym, length-take, ap, ◌∙◌, arith}
+use Rattle.std.specs.Int.{w16, w32, w64, cast_signed, cast_unsigned, to_be_bytes, from_be_bytes}
+use Rattle.std.proofs.Math.Seq.{drop-append_seam}
+use Rattle.std.proofs.lemmas.Nat.{be_bytes_2, be_bytes_4, be_bytes_8}
+use Rattle.std.proofs.lemmas.List.{take-append-drop}
+use Rattle.byteorder.specs.Numbers.{big_number-reads_back, length-bytes_high_first, big_from-take}
+use Rattle.tt_value.specs.Words.{be, number}
+
+pub length-be : (n x : ℕ) → length (be n x) ≡ n
+unfolding be
+length-be n x = length-bytes_high_first n x
+
+pub number-be : (n x : ℕ) (rest : List ℕ) → x < 256 ^ n → number n (be n x ++ rest) ≡ x
+unfolding be number
+number-be n x rest h = big_number-reads_back n x rest h
+
+-- what stands behind a number's bytes
+pub drop-be : (n x : ℕ) (rest : List ℕ) → drop n (be n x ++ rest) ≡ rest
+drop-be n x rest = ap (λ k. drop k (be n x ++ rest)) (sym (length-be n x)) ∙ drop-append_seam (be n x) rest
+
+-- each is below 256
+abbrev pub AreBytes : List ℕ → Type 0
+AreBytes bytes = (i : ℕ) → get_or bytes i 0 < 256
+
+pub number-take : (n : ℕ) (bytes : List ℕ) → number n (take n bytes) ≡ number n bytes
+unfolding number
+number-take n bytes = big_from-take 0 n n bytes (omega arith)
+
+pub take_bytes : (n : ℕ) (bytes : List ℕ) → AreBytes bytes → AreBytes (take n bytes)
+take_bytes zero bytes h i = omega arith
+take_bytes (suc n) [] h i = h i
+take_bytes (suc n) (b ∷ bytes) h zero = h zero
+take_bytes (suc n) (b ∷ bytes) h (suc i) = take_bytes n bytes (λ j. h (suc j)) i
+
+pub drop_bytes : (n : ℕ) (bytes : List ℕ) → AreBytes bytes → AreBytes (drop n bytes)
+drop_bytes zero bytes h i = h i
+drop_bytes (suc n) [] h i = h i
+drop_bytes (suc n) (b ∷ bytes) h i = drop_bytes n bytes (λ j. h (suc j)) i
+
+pub be-number_2 : (bytes : List ℕ) → 2 ≤ length bytes → AreBytes bytes → be 2 (number 2 bytes) ≡ take 2 bytes
+unfolding be number
+be-number_2 bytes h b =
+    let same = number-take 2 bytes in
+    be_bytes_2 (take 2 bytes) (number 2 bytes) (omega (arith, length-take 2 bytes)) (take_bytes 2 bytes b) (sym same ∙ omega arith)
+
+pub be-number_4 : (bytes : List ℕ) → 4 ≤ length bytes → AreBytes bytes → be 4 (number 4 bytes) ≡ take 4 bytes
+unfolding be number
+be-number_4 bytes h b =
+    let same = number-take 4 bytes in
+    be_bytes_4 (take 4 bytes) (number 4 bytes) (omega (arith, length-take 4 bytes)) (take_bytes 4 bytes b) (sym same ∙ omega arith)
+
+pub be-number_8 : (bytes : List ℕ) → 8 ≤ length bytes → AreBytes bytes → be 8 (number 8 bytes) ≡ take 8 bytes
+unfolding be number
+be-number_8 bytes h b =
+    let same = number-take 8 bytes in
+    be_bytes_8 (take 8 bytes) (number 8 bytes) (omega (arith, length-take 8 bytes)) (take_bytes 8 bytes b) (sym same ∙ omega arith)
