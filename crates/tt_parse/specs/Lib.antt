@@ -1,0 +1,11 @@
+pub mod Grammar
+pub mod Reader
+pub mod Tokens
+pub mod Cursor
+pub mod View
+pub mod Symbols
+pub mod Script
+pub mod Reading
+pub mod Parsing
+pub mod Spelling
+pub mod Written
