@@ -1,0 +1,39 @@
+ghost use Rattle.std.specs.Prelude.{◌≡◌, ◌≤◌, length};
+ghost use Rattle.tt_record.specs.Entries.{IsCell, IsEntry, cell_bytes, length_of};
+
+use crate::entry::Entry;
+use tt_value::{Cell, stored_length};
+
+#[tactic(auto, unfolding(tt_value::specs::Words::be))]
+fn cell_length(cell: &Cell) -> u64
+    requires { IsCell cell.now }
+    ensures length { result ≡ length (cell_bytes cell.now) }
+    ensures short { result ≤ 247 }
+{
+    match cell {
+        Cell::Empty => 1,
+        Cell::Full { table: _, row } => 7 + stored_length(row),
+    }
+}
+
+/// How many bytes an entry has: 1 to 507.
+#[tactic(auto, unfolding(tt_value::specs::Words::be))]
+pub fn entry_length(entry: &Entry) -> u64
+    requires { IsEntry entry.now }
+    ensures length { result ≡ length_of entry.now }
+    ensures some { 1 ≤ result }
+    ensures short { result ≤ 507 }
+{
+    match entry {
+        Entry::Change {
+            transaction: _,
+            place: _,
+            before,
+            after,
+        } => 13 + cell_length(before) + cell_length(after),
+        Entry::Commit { .. } => 9,
+        Entry::Abort { .. } => 9,
+        Entry::Mark => 1,
+        Entry::Switch { .. } => 5,
+    }
+}
