@@ -1,6 +1,5 @@
 pub mod CommitLemmas
 pub mod GateLemmas
-mod Inserts
 pub mod OpenLemmas
 pub mod ReadLemmas
 pub mod RowLemmas

@@ -1,19 +1,22 @@
 -- One more line of a run.
-use Rattle.std.proofs.Common.{◌≡◌, ◌^◌, ◌⊎◌, inl, inr, ℕ, List, [], ◌∷◌, ◌++◌, ◌≤◌, arith, length, take, map, Option, Some, None, Result, Ok, Err, refl, sym, ap, ◌∙◌, subst, append_assoc, append-nil, length-append}
+use Rattle.std.proofs.Common.{◌≡◌, ◌^◌, ◌⊎◌, inl, inr, ℕ, Bool, true, false, cond, List, [], ◌∷◌, ◌++◌, ◌≤◌, arith, length, take, map, Option, Some, None, Result, Ok, Err, refl, sym, ap, ◌∙◌, subst, append_assoc, append-nil, length-append}
 use Rattle.std.specs.Prelude.{flat_map, codes}
 use Rattle.std.proofs.lemmas.List.{map-append, take_at}
 use Rattle.std.proofs.Math.Seq.{take-length}
 use Rattle.std.proofs.lemmas.Grind.{flat_map-append}
 use Rattle.std.specs.Io.KnownBytes.{Appends}
-use Rattle.tt_flow.specs.Reading.{HasGiven}
+use Rattle.tt_flow.specs.Reading.{HasGiven, HasGivenTold}
+use Rattle.tt_parse.specs.Parsing.{is_skipped}
+use Rattle.std.specs.Prelude.{IfSome, ◌↔◌, not}
 use Rattle.tt_flow.specs.Script.{script_lines}
 use Rattle.tt_flow.specs.declared.lines.Input.TheVariants.{Ended}
 use Rattle.tt_flow.specs.declared.lines.LineReader.{LineReader}
 use Rattle.tt_flow.proofs.Cuts.{script_lines_cut}
-use Rattle.tt_run.specs.declared.reply.Reply.{Reply}
+use Rattle.tt_value.specs.declared.reply.Reply.{Reply}
 use Rattle.tt_run.specs.declared.request.Request.{Request}
-use Rattle.tt_run.specs.declared.request.Request.TheVariants.{Insert, Commit, TooLong, Other}
-use Rattle.tt_run.specs.Requests.{IsRequest, AreRequests}
+use Rattle.tt_run.specs.declared.request.Request.TheVariants.{Insert, Commit, Refused}
+use Rattle.tt_run.specs.Requests.{IsRequest, AreRequests, is_answered}
+use Rattle.std.specs.List.{filter}
 use Rattle.tt_run.specs.Rows.{Row}
 use Rattle.tt_disk.specs.declared.volume.Name.{Name}
 use Rattle.std.specs.Prelude.{option_map}
@@ -26,8 +29,8 @@ use Rattle.tt_run.specs.Replies.{text_of}
 use Rattle.tt_run.specs.declared.session.Session.{Session}
 use Rattle.tt_run.specs.declared.status.Status.{Status}
 use Rattle.tt_run.specs.declared.status.Status.TheVariants.{Done as AllDone, ScriptFault, SinkFault, VolumeFault, NoMemory, Usage, Damaged, Exists, NoDatabase, ScriptTooLong}
-use Rattle.tt_run.specs.declared.status.Stop.{Stop}
-use Rattle.tt_run.specs.declared.status.Stop.TheVariants.{Logs, Images, Backups}
+use Rattle.tt_value.specs.declared.reply.Stop.{Stop}
+use Rattle.tt_value.specs.declared.reply.Stop.TheVariants.{Logs, Images, Backups}
 use Rattle.tt_run.specs.declared.load.OpenRefusal.{OpenRefusal}
 use Rattle.tt_run.specs.Runs.{texts, AreAnswered, AreLinesDone, HasRun, IsRunning, IsNext, IsScriptEnd, MovesRows, EndsRows, IsCreated, LeavesCommits, first_commits, IsOpenFault, IsRun, IsOpened, IsFaultOf}
 use Rattle.tt_run.specs.Session.{row_inserted, inserted, IsReply, AreReplies, row_batch, own_after, commits, own_rows, committed_rows, committed_after, Knows, HasRows, LeavesRows, LeavesEither, Answers}
@@ -56,8 +59,7 @@ batch_added : (found own : List Row) (before : List (List Row)) (request : Reque
 batch_added found own before Commit =
     ap (λ l. found ++ l) (all_rows-append before (own ∷ []) ∙ ap (λ l. all_rows before ++ l) (append-nil own)) ∙ sym (append_assoc found (all_rows before) own)
 batch_added found own before (Insert key value) = ap (λ l. found ++ all_rows l) (append-nil before)
-batch_added found own before TooLong = ap (λ l. found ++ all_rows l) (append-nil before)
-batch_added found own before Other = ap (λ l. found ++ all_rows l) (append-nil before)
+batch_added found own before (Refused refusal) = ap (λ l. found ++ all_rows l) (append-nil before)
 
 pub committed_rows-last : (found : List Row) (answered : Answered) (line : Request × Reply) → committed_rows found (answered ++ line ∷ []) ≡ committed_after (committed_rows found answered) (own_rows [] answered) line.0
 committed_rows-last found answered line =
@@ -71,8 +73,7 @@ seen-step : (own : List Row) (request : Request) (reply : Reply) (rest : Answere
     → all_rows (row_batch own request ++ commits (own_after own request reply) rest) ++ own_rows (own_after own request reply) rest ≡ own ++ (row_inserted request reply ++ inserted rest)
 seen-step own Commit reply rest same = append_assoc own (all_rows (commits [] rest)) (own_rows [] rest) ∙ ap (λ l. own ++ l) same
 seen-step own (Insert key value) reply rest same = same ∙ append_assoc own (row_inserted (Insert key value) reply) (inserted rest)
-seen-step own TooLong reply rest same = same ∙ append_assoc own [] (inserted rest)
-seen-step own Other reply rest same = same ∙ append_assoc own [] (inserted rest)
+seen-step own (Refused refusal) reply rest same = same ∙ append_assoc own [] (inserted rest)
 
 seen-from : (own : List Row) (answered : Answered) → all_rows (commits own answered) ++ own_rows own answered ≡ own ++ inserted answered
 seen-from own [] = sym (append-nil own)
@@ -110,12 +111,33 @@ AreRequests-last (l ∷ lines) (r ∷ requests) line request all one = (all.0, A
 AreRequests-last [] (r ∷ requests) line request all one = absurd all
 AreRequests-last (l ∷ lines) [] line request all one = absurd all
 
+-- the answered lines among one line more
+choose-last : {X : Type 0} (b : Bool) (y x : X) (more xs : List X) → more ≡ xs ++ x ∷ [] → cond b (y ∷ more) more ≡ cond b (y ∷ xs) xs ++ x ∷ []
+choose-last true y x more xs e = ap (λ l. y ∷ l) e
+choose-last false y x more xs e = e
+
+answered_line : (lines : List (Option (List ℕ))) (line : Option (List ℕ)) → is_answered line ≡ true → filter is_answered (lines ++ line ∷ []) ≡ filter is_answered lines ++ line ∷ []
+answered_line [] line is = ap (λ b. cond b (line ∷ []) []) is
+answered_line (l ∷ lines) line is = choose-last (is_answered l) l line (filter is_answered (lines ++ line ∷ [])) (filter is_answered lines) (answered_line lines line is)
+
+skipped_line : (lines : List (Option (List ℕ))) (line : Option (List ℕ)) → is_answered line ≡ false → filter is_answered (lines ++ line ∷ []) ≡ filter is_answered lines
+skipped_line [] line is = ap (λ b. cond b (line ∷ []) []) is
+skipped_line (l ∷ lines) line is = ap (λ more. cond (is_answered l) (l ∷ more) more) (skipped_line lines line is)
+
+-- one line more was skipped
+pub skipped_more : (found : List Row) (lines : List (Option (List ℕ))) (answered : Answered) (line : Option (List ℕ)) → AreAnswered found lines answered → is_answered line ≡ false → AreAnswered found (lines ++ line ∷ []) answered
+skipped_more found lines answered line so_far is = record {
+  requests = subst (λ (l : List (Option (List ℕ))). AreRequests l (map (λ x. x.0) answered)) (sym (skipped_line lines line is)) so_far.requests;
+  replies = so_far.replies;
+}
+
 -- one line more was answered
-pub answered_more : (found : List Row) (lines : List (Option (List ℕ))) (answered : Answered) (line : Option (List ℕ)) (request : Request) (reply : Reply) → AreAnswered found lines answered → IsRequest line request
+pub answered_more : (found : List Row) (lines : List (Option (List ℕ))) (answered : Answered) (line : Option (List ℕ)) (request : Request) (reply : Reply) → AreAnswered found lines answered → is_answered line ≡ true → IsRequest line request
     → IsReply (committed_rows found answered ++ own_rows [] answered) request reply → AreAnswered found (lines ++ line ∷ []) (answered ++ (request, reply) ∷ [])
-answered_more found lines answered line request reply so_far asks told = record {
-  requests = subst (λ (l : List Request). AreRequests (lines ++ line ∷ []) l) (sym (map-append (λ x. x.0) answered ((request, reply) ∷ [])))
-      (AreRequests-last lines (map (λ x. x.0) answered) line request so_far.requests asks);
+answered_more found lines answered line request reply so_far is asks told = record {
+  requests = subst (λ (l : List (Option (List ℕ))). AreRequests l (map (λ x. x.0) (answered ++ (request, reply) ∷ []))) (sym (answered_line lines line is))
+      (subst (λ (l : List Request). AreRequests (filter is_answered lines ++ line ∷ []) l) (sym (map-append (λ x. x.0) answered ((request, reply) ∷ [])))
+      (AreRequests-last (filter is_answered lines) (map (λ x. x.0) answered) line request so_far.requests asks));
   replies = AreReplies-last found answered (request, reply) so_far.replies (subst (λ (rows : List Row). IsReply rows request reply) (seen_rows found answered) told);
 }
 
@@ -212,32 +234,65 @@ ended_rows told found answered NoDatabase fault now may is = absurd is
 
 -- a run whose commit failed
 pub failed_commit : (script left : List ℕ) (rest : Option (List ℕ)) (found : List Row) (before after : Option (List ℕ)) (answered : Answered) (old new : LineReader) (session : Session) (stop : Stop) (request : Request)
-    (run : IsRunning script left found before after answered old session) → IsNext script run.lines (Ok request) new rest → request ≡ Commit → HasRun script rest found before after answered (VolumeFault stop)
-failed_commit script left rest found before after answered old new session stop request run (line, asks, (more, is_left, given)) is =
+    (run : IsRunning script left found before after answered old session) → IsNext script run.lines (Ok (Some request)) new rest → request ≡ Commit → HasRun script rest found before after answered (VolumeFault stop)
+failed_commit script left rest found before after answered old new session stop request run (line, answers, asks, (more, is_left, given)) is =
     let (others, split) = first_lines script more (run.lines ++ line ∷ []) new given in
     record {
       lines = run.lines;
       answers = run.answers;
-      done = (others, split ∙ append_assoc run.lines (line ∷ []) others ∙ ap (λ l. run.lines ++ l ∷ others) (is_commit line (subst (IsRequest line) is asks)));
+      done = (line, others, split ∙ append_assoc run.lines (line ∷ []) others, answers, subst (IsRequest line) is asks);
       texts_written = run.texts_written;
     }
+
+-- the next line is skipped, or asks for something
+pub read_next : (script : List ℕ) (given : List (Option (List ℕ))) (seen line : List ℕ) (request : Option Request) (reader : LineReader) (left : Option (List ℕ)) → seen ≡ line → (request ≡ None) ↔ (is_skipped seen ≡ true)
+    → IfSome request (λ r. IsRequest (Some seen) r) → HasGivenTold script (given ++ Some line ∷ []) reader left → IsNext script given (Ok request) reader left
+read_next script given seen line None reader left same skipped asks read = (Some line, ap not (ap is_skipped (sym same) ∙ skipped.0 refl), read)
+read_next script given seen line (Some request) reader left same skipped asks read = (
+  Some line,
+  ap (λ l. not (is_skipped l)) (sym same) ∙ ap not (unskipped (is_skipped seen) (λ e. let none : Some request ≡ None = skipped.1 e in cc)),
+  subst (λ (l : List ℕ). IsRequest (Some l) request) same asks,
+  read,
+)
   where
-    is_commit : (l : Option (List ℕ)) → IsRequest l Commit → l ≡ Some (codes "commit")
-    is_commit None e = cc
-    is_commit (Some l) e = ap (λ t. Some t) e
+    unskipped : (b : Bool) → ¬ (b ≡ true) → b ≡ false
+    unskipped true f = absurd (f refl)
+    unskipped false f = refl
+
+-- a run that goes on behind a line that was skipped
+pub goes_past : (script left : List ℕ) (rest : Option (List ℕ)) (found : List Row) (before after : Option (List ℕ)) (answered : Answered) (old new : LineReader) (session : Session)
+    (run : IsRunning script left found before after answered old session) → IsNext script run.lines (Ok None) new rest
+    → (others : List ℕ) × (rest ≡ Some others) × IsRunning script others found before after (answered ++ []) new session
+goes_past script left rest found before after answered old new session run (line, skipped, (more, is_left, given)) = (
+  more,
+  is_left,
+  subst (λ (a : Answered). IsRunning script more found before after a new session) (sym (append-nil answered)) (record {
+    lines = run.lines ++ line ∷ [];
+    given = given;
+    answers = skipped_more found run.lines answered line run.answers skipped;
+    knows = run.knows;
+    texts_written = run.texts_written;
+  }),
+)
+
+-- a skipped line moves no rows
+pub moved_past : (told : Type 0) (found : List Row) (answered : Answered) (now : Name → Option (List ℕ)) (may : Name → Option (List ℕ) → Type 0)
+    → MovesRows told (committed_rows found answered) (committed_rows found (answered ++ [])) now now may may
+moved_past told found answered now may =
+    subst (λ (a : Answered). MovesRows told (committed_rows found answered) (committed_rows found a) now now may may) (sym (append-nil answered)) (record { rows = λ _ has. has; crash = λ _ _ leaves. leaves })
 
 -- a run that goes on behind a line
 pub goes_on : (script left : List ℕ) (rest : Option (List ℕ)) (found : List Row) (before middle after : Option (List ℕ)) (answered : Answered) (old new : LineReader) (session session' : Session) (request : Request) (reply : Reply)
-    (run : IsRunning script left found before middle answered old session) → IsNext script run.lines (Ok request) new rest
+    (run : IsRunning script left found before middle answered old session) → IsNext script run.lines (Ok (Some request)) new rest
     → Answers (committed_rows found answered) (own_rows [] answered) request session' reply → Appends middle after (text_of reply)
     → (others : List ℕ) × (rest ≡ Some others) × IsRunning script others found before after (answered ++ (request, reply) ∷ []) new session'
-goes_on script left rest found before middle after answered old new session session' request reply run (line, asks, (more, is_left, given)) told put = (
+goes_on script left rest found before middle after answered old new session session' request reply run (line, is, asks, (more, is_left, given)) told put = (
   more,
   is_left,
   record {
     lines = run.lines ++ line ∷ [];
     given = given;
-    answers = answered_more found run.lines answered line request reply run.answers asks told.told;
+    answers = answered_more found run.lines answered line request reply run.answers is asks told.told;
     knows = knows;
     texts_written = subst (λ (t : List ℕ). Appends before after t) (sym (texts-last answered (request, reply))) (appended_twice before middle after (texts answered) (text_of reply) run.texts_written put);
   },
@@ -249,12 +304,12 @@ goes_on script left rest found before middle after answered old new session sess
 
 -- a run whose sink failed behind a line
 pub failed_put : (script left : List ℕ) (rest : Option (List ℕ)) (found : List Row) (before middle after : Option (List ℕ)) (answered : Answered) (old new : LineReader) (session session' : Session) (request : Request) (reply : Reply) (n : ℕ)
-    (run : IsRunning script left found before middle answered old session) → IsNext script run.lines (Ok request) new rest
+    (run : IsRunning script left found before middle answered old session) → IsNext script run.lines (Ok (Some request)) new rest
     → Answers (committed_rows found answered) (own_rows [] answered) request session' reply → Appends middle after (take n (text_of reply))
     → HasRun script rest found before after (answered ++ (request, reply) ∷ []) SinkFault
-failed_put script left rest found before middle after answered old new session session' request reply n run (line, asks, (more, is_left, given)) told put = record {
+failed_put script left rest found before middle after answered old new session session' request reply n run (line, is, asks, (more, is_left, given)) told put = record {
   lines = run.lines ++ line ∷ [];
-  answers = answered_more found run.lines answered line request reply run.answers asks told.told;
+  answers = answered_more found run.lines answered line request reply run.answers is asks told.told;
   done = first_lines script more (run.lines ++ line ∷ []) new given;
   texts_written = (answered, (request, reply), n, refl, appended_twice before middle after (texts answered) (take n (text_of reply)) run.texts_written put);
 }

@@ -4,10 +4,10 @@ use Rattle.std.proofs.lemmas.Bool.{eq-eqb, eqb-true}
 use Rattle.std.specs.List.{list_any}
 use Rattle.std.specs.BTreeSet.{BTreeSet, contains, Updates, IsUnchanged}
 use Rattle.std.specs.Ordering.{int_cmp, is_eq}
-use Rattle.tt_run.specs.declared.reply.Refusal.{Refusal}
-use Rattle.tt_run.specs.declared.reply.Reply.{Reply}
-use Rattle.tt_run.specs.declared.reply.Reply.TheVariants.{Changed, Refused}
-use Rattle.tt_run.specs.declared.reply.Refusal.TheVariants.{DuplicateKey}
+use Rattle.tt_value.specs.declared.refusal.Refusal.{Refusal}
+use Rattle.tt_value.specs.declared.reply.Reply.{Reply}
+use Rattle.tt_value.specs.declared.reply.Reply.TheVariants.{Changed, Refused}
+use Rattle.tt_value.specs.declared.refusal.Refusal.TheVariants.{DuplicateKey}
 use Rattle.tt_run.specs.declared.request.Request.TheVariants.{Insert}
 use Rattle.tt_run.specs.declared.session.Session.{Session}
 use Rattle.tt_run.specs.Opening.{HasKeys}
@@ -40,7 +40,7 @@ pub duplicate : (committed own : List Row) (key value : ℤ) (set : BTreeSet ℤ
 duplicate committed own key value set has there = inl (ap choice (sym there ∙ has key))
   where
     choice : Bool → Reply
-    choice b = if b then Refused DuplicateKey else Changed
+    choice b = if b then Refused DuplicateKey else Changed 1
 
 whole_more : (batch row : List ℕ) → has_whole_rows batch ≡ true → length row ≡ 16 → has_whole_rows (batch ++ row) ≡ true
 whole_more batch row whole long =
@@ -49,7 +49,7 @@ whole_more batch row whole long =
 
 -- an insert of a new key
 pub changed : (committed own : List Row) (key value : ℤ) (row : List ℕ) (old new : Session) → Knows committed own old → length row ≡ 16 → row_of row ≡ (key, value)
-    → new.batch.items ≡ old.batch.items ++ row → contains int_cmp old.keys (row_of row).0 ≡ false → Updates int_cmp old.keys new.keys (row_of row).0 true → Answers committed own (Insert key value) new Changed
+    → new.batch.items ≡ old.batch.items ++ row → contains int_cmp old.keys (row_of row).0 ≡ false → Updates int_cmp old.keys new.keys (row_of row).0 true → Answers committed own (Insert key value) new (Changed 1)
 changed committed own key value row old new knows long is batch absent updates =
     let none : has_key (committed ++ own) key ≡ false = sym (knows.keys key) ∙ ap (λ (r : Row). contains int_cmp old.keys r.0) (sym is) ∙ absent in
     let news : Updates int_cmp old.keys new.keys key true = subst (λ (r : Row). Updates int_cmp old.keys new.keys r.0 true) is updates in
@@ -66,7 +66,7 @@ changed committed own key value row old new knows long is batch absent updates =
     }
   where
     choice : Bool → Reply
-    choice b = if b then Refused DuplicateKey else Changed
+    choice b = if b then Refused DuplicateKey else Changed 1
 
 pub not_true : (b : Bool) → not b ≡ true → b ≡ false
 not_true true e = cc

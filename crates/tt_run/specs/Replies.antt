@@ -1,16 +1,26 @@
 -- The text of a reply.
-use Rattle.std.specs.Prelude.{ℕ, List, [], ◌∷◌, ◌++◌, codes}
-use Rattle.tt_run.specs.declared.reply.Reply.{Reply}
-use Rattle.tt_run.specs.declared.reply.Reply.TheVariants.{Done, Changed, Refused}
-use Rattle.tt_run.specs.declared.reply.Refusal.TheVariants.{Syntax, DuplicateKey, LineTooLong, NoMemory}
+use Rattle.std.specs.Prelude.{ℕ, List, [], ◌∷◌, ◌++◌, codes, decimal, Option, Some, None}
+use Rattle.tt_value.specs.Refusals.{number_of, name_of, field_of}
+use Rattle.tt_value.specs.declared.reply.Reply.{Reply}
+use Rattle.tt_value.specs.declared.reply.Reply.TheVariants.{Done, Changed, Refused}
+
+-- a reply that some line gives
+abbrev pub IsShown : Reply → Type 0
+IsShown Done = Unit {0}
+IsShown (Changed n) = Unit {0}
+IsShown (Refused refusal) = Unit {0}
+IsShown _ = ⊥
+
+-- a blank, a field's name, a blank and its number
+abbrev pub field_words : Option (List ℕ × ℕ) → List ℕ
+field_words None = []
+field_words (Some field) = 32 ∷ (field.0 ++ (32 ∷ decimal field.1))
 
 abbrev pub words_of : Reply → List ℕ
 words_of Done = codes "ok"
-words_of Changed = codes "changed 1"
-words_of (Refused Syntax) = codes "error 1 Syntax at 0"
-words_of (Refused DuplicateKey) = codes "error 6 DuplicateKey"
-words_of (Refused LineTooLong) = codes "error 25 LineTooLong"
-words_of (Refused NoMemory) = codes "error 28 NoMemory"
+words_of (Changed n) = codes "changed " ++ decimal n
+words_of (Refused refusal) = codes "error " ++ (decimal (number_of refusal) ++ (32 ∷ (name_of refusal ++ field_words (field_of refusal))))
+words_of _ = []
 
 -- its line, with the line feed
 abbrev pub text_of : Reply → List ℕ

@@ -1,22 +1,23 @@
 -- What a run of a script writes, and what it leaves of the log file.
-use Rattle.std.specs.Prelude.{◌≡◌, ◌<◌, ◌≤◌, ◌-◌, ◌⊎◌, ℕ, List, [], ◌∷◌, ◌++◌, length, take, map, flat_map, codes, Option, Some, None, Result, Ok, Err}
+use Rattle.std.specs.Prelude.{◌≡◌, ◌<◌, ◌≤◌, ◌-◌, ◌⊎◌, ℕ, List, [], ◌∷◌, ◌++◌, length, take, map, flat_map, filter, codes, true, false, Option, Some, None, Result, Ok, Err}
 use Rattle.std.specs.Io.KnownBytes.{Appends}
 use Rattle.tt_disk.specs.declared.volume.Name.{Name}
 use Rattle.tt_disk.specs.declared.volume.Name.TheVariants.{Log}
 use Rattle.tt_flow.specs.Reading.{HasGiven, HasGivenTold}
 use Rattle.tt_flow.specs.Script.{script_lines, ended_lines, script_most}
 use Rattle.tt_flow.specs.declared.lines.LineReader.{LineReader}
-use Rattle.tt_run.specs.declared.reply.Reply.{Reply}
+use Rattle.tt_value.specs.declared.reply.Reply.{Reply}
 use Rattle.tt_run.specs.declared.request.Request.{Request}
+use Rattle.tt_run.specs.declared.request.Request.TheVariants.{Commit}
 use Rattle.tt_run.specs.declared.session.Session.{Session}
 use Rattle.tt_run.specs.declared.status.Status.{Status}
 use Rattle.tt_run.specs.declared.status.Status.TheVariants.{Done, ScriptFault, SinkFault, VolumeFault, NoMemory, Usage, Damaged, Exists, NoDatabase, ScriptTooLong}
-use Rattle.tt_run.specs.declared.status.Stop.TheVariants.{Logs, Images, Backups}
+use Rattle.tt_value.specs.declared.reply.Stop.TheVariants.{Logs, Images, Backups}
 use Rattle.tt_run.specs.declared.load.OpenRefusal.{OpenRefusal}
 use Rattle.tt_run.specs.declared.load.OpenRefusal.TheVariants as refusal
 use Rattle.tt_run.specs.Opening.{opened}
 use Rattle.tt_run.specs.Replies.{text_of}
-use Rattle.tt_run.specs.Requests.{IsRequest, AreRequests}
+use Rattle.tt_run.specs.Requests.{IsRequest, AreRequests, is_answered}
 use Rattle.tt_run.specs.Rows.{Row}
 use Rattle.tt_run.specs.Session.{AreReplies, Knows, HasRows, LeavesRows, committed_rows, commits, own_rows}
 
@@ -24,19 +25,19 @@ use Rattle.tt_run.specs.Session.{AreReplies, Knows, HasRows, LeavesRows, committ
 abbrev pub texts : List (Request × Reply) → List ℕ
 texts answered = flat_map (λ line. text_of line.1) answered
 
--- These lines were answered so, where the log file had these rows at the start.
+-- These lines were answered so, where the log file had these rows at the start; blank lines and comments have no reply.
 pub record AreAnswered (found : List Row) (lines : List (Option (List ℕ))) (answered : List (Request × Reply)) : Type 0 where
-  pub requests : AreRequests lines (map (λ line. line.0) answered)
+  pub requests : AreRequests (filter is_answered lines) (map (λ line. line.0) answered)
   pub replies : AreReplies found answered
 
--- Which lines of a script were answered when the run ended so. At a fault of the script each line whose line feed was taken was;
+-- Which lines of a script were done when the run ended so. At a fault of the script each line whose line feed was taken was;
 -- at a fault of the volume the next line is a commit; at a fault of the sink the last one was answered in part.
 abbrev pub AreLinesDone : List ℕ → Option (List ℕ) → List (Option (List ℕ)) → Status → Type 0
 AreLinesDone script left lines Done = script_lines script ≡ lines
 AreLinesDone script left lines ScriptTooLong = (script_most < length script) × (ended_lines (take script_most script) ≡ lines)
 AreLinesDone script left lines ScriptFault = (rest : List ℕ) × (left ≡ Some rest) × (ended_lines (take (length script - length rest) script) ≡ lines)
 AreLinesDone script left lines SinkFault = (more : List (Option (List ℕ))) × (script_lines script ≡ lines ++ more)
-AreLinesDone script left lines (VolumeFault stop) = (more : List (Option (List ℕ))) × (script_lines script ≡ lines ++ Some (codes "commit") ∷ more)
+AreLinesDone script left lines (VolumeFault stop) = (line : Option (List ℕ)) × (more : List (Option (List ℕ))) × (script_lines script ≡ lines ++ line ∷ more) × (is_answered line ≡ true) × IsRequest line Commit
 AreLinesDone script left lines _ = ⊥
 
 -- What was written when the run ended so: the text of each reply; of the last one a part, where the sink failed.
@@ -73,13 +74,14 @@ pub record IsRunning (script left : List ℕ) (found : List Row) (before after :
   pub knows : Knows (committed_rows found answered) (own_rows [] answered) session
   pub texts_written : Appends before after (texts answered)
 
--- what the next line asks for, or how the run ends where there is none
-abbrev pub IsNext : List ℕ → List (Option (List ℕ)) → Result Request Status → LineReader → Option (List ℕ) → Type 0
-IsNext script given (Ok request) reader left = (line : Option (List ℕ)) × IsRequest line request × HasGivenTold script (given ++ line ∷ []) reader left
+-- what the next line asks for, if it is answered; or how the run ends where there is none
+abbrev pub IsNext : List ℕ → List (Option (List ℕ)) → Result (Option Request) Status → LineReader → Option (List ℕ) → Type 0
+IsNext script given (Ok None) reader left = (line : Option (List ℕ)) × (is_answered line ≡ false) × HasGivenTold script (given ++ line ∷ []) reader left
+IsNext script given (Ok (Some request)) reader left = (line : Option (List ℕ)) × (is_answered line ≡ true) × IsRequest line request × HasGivenTold script (given ++ line ∷ []) reader left
 IsNext script given (Err status) reader left = AreLinesDone script left given status
 
 -- the next line was read, or the script ended or failed
-abbrev pub IsScriptEnd : Result Request Status → Type 0 → Type 0
+abbrev pub IsScriptEnd : Result (Option Request) Status → Type 0 → Type 0
 IsScriptEnd (Ok request) fault = Unit {0}
 IsScriptEnd (Err Done) fault = Unit {0}
 IsScriptEnd (Err ScriptTooLong) fault = Unit {0}
@@ -110,12 +112,12 @@ pub record EndsRows (told : Type 0) (before found : List Row) (answered : List (
   pub rows : told → HasRows before now_old → HasCommits found answered status now_new
   pub crash : told → HasRows before now_old → LeavesRows before may_old → LeavesCommits found answered status may_new
 
--- After one line more the run goes on, or has ended.
+-- After one line more, which was answered or skipped, the run goes on, or has ended.
 abbrev pub IsStep : List ℕ → Option (List ℕ) → List Row → Option (List ℕ) → Option (List ℕ) → List (Request × Reply) → LineReader → Session
     → Type 0 → (Name → Option (List ℕ)) → (Name → Option (List ℕ)) → (Name → Option (List ℕ) → Type 0) → (Name → Option (List ℕ) → Type 0) → Option Status → Type 0
 IsStep script left found before after answered reader session told now_old now_new may_old may_new None =
-    (line : Request × Reply) × (rest : List ℕ) × (left ≡ Some rest) × IsRunning script rest found before after (answered ++ line ∷ []) reader session
-    × MovesRows told (committed_rows found answered) (committed_rows found (answered ++ line ∷ [])) now_old now_new may_old may_new
+    (more : List (Request × Reply)) × (rest : List ℕ) × (left ≡ Some rest) × IsRunning script rest found before after (answered ++ more) reader session
+    × MovesRows told (committed_rows found answered) (committed_rows found (answered ++ more)) now_old now_new may_old may_new
 IsStep script left found before after answered reader session told now_old now_new may_old may_new (Some status) =
     (all : List (Request × Reply)) × HasRun script left found before after all status × EndsRows told (committed_rows found answered) found all status now_old now_new may_old may_new
 

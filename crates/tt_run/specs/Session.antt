@@ -3,11 +3,12 @@ use Rattle.std.specs.Prelude.{◌≡◌, ◌⊎◌, ℕ, true, if◌then◌else�
 use Rattle.tt_disk.specs.declared.volume.Name.{Name}
 use Rattle.tt_disk.specs.declared.volume.Name.TheVariants.{Log}
 use Rattle.tt_gate.specs.Standing.{IsReady}
-use Rattle.tt_run.specs.declared.reply.Reply.{Reply}
-use Rattle.tt_run.specs.declared.reply.Reply.TheVariants.{Done, Changed, Refused}
-use Rattle.tt_run.specs.declared.reply.Refusal.TheVariants.{Syntax, DuplicateKey, LineTooLong, NoMemory}
+use Rattle.tt_value.specs.declared.reply.Reply.{Reply}
+use Rattle.tt_value.specs.declared.reply.Reply.TheVariants.{Done, Changed, Refused}
+use Rattle.tt_value.specs.declared.refusal.Refusal.TheVariants.{DuplicateKey, NoMemory}
 use Rattle.tt_run.specs.declared.request.Request.{Request}
-use Rattle.tt_run.specs.declared.request.Request.TheVariants.{Insert, Commit, TooLong, Other}
+use Rattle.tt_run.specs.declared.request.Request.TheVariants as request
+use Rattle.tt_run.specs.declared.request.Request.TheVariants.{Insert, Commit}
 use Rattle.tt_run.specs.declared.session.Session.{Session}
 use Rattle.tt_run.specs.declared.load.OpenRefusal.{OpenRefusal}
 use Rattle.tt_run.specs.Opening.{opened, HasKeys, Refuses}
@@ -15,7 +16,7 @@ use Rattle.tt_run.specs.Rows.{Row, rows_of, has_whole_rows, has_key, are_fresh}
 
 -- the row that a line inserts, where it is answered so
 abbrev pub row_inserted : Request → Reply → List Row
-row_inserted (Insert key value) Changed = (key, value) ∷ []
+row_inserted (Insert key value) (Changed n) = (key, value) ∷ []
 row_inserted _ _ = []
 
 -- the rows that these answered lines inserted
@@ -24,10 +25,9 @@ inserted answered = flat_map (λ line. row_inserted line.0 line.1) answered
 
 -- what a line may be answered, where the session sees these rows
 abbrev pub IsReply : List Row → Request → Reply → Type 0
-IsReply rows (Insert key value) reply = (reply ≡ (if has_key rows key then Refused DuplicateKey else Changed)) ⊎ (reply ≡ Refused NoMemory)
+IsReply rows (Insert key value) reply = (reply ≡ (if has_key rows key then Refused DuplicateKey else Changed 1)) ⊎ (reply ≡ Refused NoMemory)
 IsReply rows Commit reply = reply ≡ Done
-IsReply rows TooLong reply = reply ≡ Refused LineTooLong
-IsReply rows Other reply = reply ≡ Refused Syntax
+IsReply rows (request.Refused refusal) reply = reply ≡ Refused refusal
 
 -- Each line has a reply that it may have where the session sees the rows found at the start and those that the lines before it
 -- inserted.

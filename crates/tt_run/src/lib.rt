@@ -12,5 +12,6 @@ mod tests;
 mod top_call;
 mod words;
 
-pub use status::{Damage, Status, Stop};
+pub use status::{Damage, Status};
 pub use top_call::run;
+pub use tt_value::Stop;

@@ -1,36 +1,90 @@
-// What a line is answered.
-ghost use Rattle.std.specs.Prelude.{◌≡◌};
-ghost use Rattle.tt_run.specs.Replies.{text_of};
+// The text of a reply.
+ghost use Rattle.std.specs.Prelude.{◌≡◌, ◌+◌, ◌≤◌, ◌++◌, ◌∷◌, [], length, codes, decimal};
+ghost use Rattle.tt_run.specs.Replies.{IsShown, text_of, field_words};
+ghost use Rattle.tt_value.specs.Refusals.{number_of, name_of, field_of};
 
-/// Why a line was refused.
-#[derive(Clone, Copy, Debug, PartialEq, Eq)]
-pub(crate) enum Refusal {
-    Syntax,
-    DuplicateKey,
-    LineTooLong,
-    NoMemory,
+use itoa::Buffer;
+use std::marker::Model;
+use tt_value::{Refusal, Reply};
+
+// The longest is that of a refusal with a field: `error `, its number, its name, the field's name and number.
+const TEXT_MAX: usize = 80;
+
+/// The text of a reply, with its line feed.
+#[derive(Drop)]
+pub(crate) struct ReplyText {
+    bytes: [u8; TEXT_MAX],
+    length: usize,
 }
 
-/// What a line is answered.
-#[derive(Clone, Copy, Debug, PartialEq, Eq)]
-pub(crate) enum Reply {
-    Done,
-    Changed,
-    Refused(Refusal),
+impl Model for ReplyText {
+    ghost use Rattle.std.specs.Prelude.{List, ℕ, take, ◌≤◌};
+
+    ghost Value = { List ℕ };
+
+    ghost view = { λ t. take t.length t.bytes };
+
+    ghost invariant = { λ t. t.length ≤ 80 };
 }
 
-impl Reply {
-    // The line that is written, with its line feed.
-    pub(crate) fn text(self) -> &'static [u8]
-        ensures { result.now ≡ text_of self }
+impl ReplyText {
+    fn new() -> ReplyText
+        ensures { result ≡ [] }
     {
-        match self {
-            Reply::Done => b"ok\n",
-            Reply::Changed => b"changed 1\n",
-            Reply::Refused(Refusal::Syntax) => b"error 1 Syntax at 0\n",
-            Reply::Refused(Refusal::DuplicateKey) => b"error 6 DuplicateKey\n",
-            Reply::Refused(Refusal::LineTooLong) => b"error 25 LineTooLong\n",
-            Reply::Refused(Refusal::NoMemory) => b"error 28 NoMemory\n",
+        ReplyText {
+            bytes: [0; TEXT_MAX],
+            length: 0,
         }
+    }
+
+    fn push(&mut self, piece: &[u8])
+        requires { length self.old + length piece.now ≤ 80 }
+        ensures { self.new ≡ self.old ++ piece.now }
+    {
+        let end = self.length + piece.len();
+        self.bytes[self.length..end].copy_from_slice(piece);
+        self.length = end;
+    }
+
+    pub(crate) fn as_slice(&self) -> &[u8]
+        ensures { result.now ≡ self.now }
+    {
+        &self.bytes[..self.length]
+    }
+}
+
+// The text of a reply that some line gives.
+pub(crate) fn reply_text(reply: &Reply) -> ReplyText
+    requires { IsShown reply.now }
+    ensures { result ≡ text_of reply.now }
+{
+    let mut text = ReplyText::new();
+    match reply {
+        Reply::Done => text.push(b"ok"),
+        Reply::Changed(rows) => {
+            text.push(b"changed ");
+            text.push(Buffer::new().format(*rows).as_bytes());
+        }
+        Reply::Refused(refusal) => push_refusal(&mut text, *refusal),
+        _ => {}
+    }
+    text.push(b"\n");
+    text
+}
+
+fn push_refusal(text: &mut ReplyText, refusal: Refusal)
+    requires { text.old ≡ [] }
+    ensures words { text.new ≡ codes "error " ++ (decimal (number_of refusal) ++ (32 ∷ (name_of refusal ++ field_words (field_of refusal)))) }
+    ensures short { length text.new ≤ 72 }
+{
+    text.push(b"error ");
+    text.push(Buffer::new().format(refusal.number()).as_bytes());
+    text.push(b" ");
+    text.push(refusal.name().as_bytes());
+    if let Some((name, number)) = refusal.field() {
+        text.push(b" ");
+        text.push(name.as_bytes());
+        text.push(b" ");
+        text.push(Buffer::new().format(number).as_bytes());
     }
 }

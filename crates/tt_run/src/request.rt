@@ -1,118 +1,78 @@
 // What a line asks for.
-ghost use Rattle.std.specs.Prelude.{◌≡◌, ◌≢◌, ◌≤◌, ◌↔◌, ◌⊎◌, ◌++◌, ℕ, ℤ, List, Some, MatchOption, IsTrue, codes, length, slice_index};
-ghost use Rattle.std.specs.Str.{IsAscii};
-ghost use Rattle.tt_run.specs.Requests.{IsRequest, IsInsert, IsNumber, insert_text};
+ghost use Rattle.std.specs.Prelude.{◌≡◌, ◌↔◌, ◌≤◌, length, true, Some, None, IfSome};
+ghost use Rattle.std.specs.Str.{bytes_eq};
+ghost use Rattle.std.specs.Prelude.{codes};
+ghost use Rattle.tt_parse.specs.Parsing.{is_skipped};
+ghost use Rattle.tt_run.specs.Requests.{IsRequest, row_request, command_request, request_of};
+
+use std::alloc::Global;
+use tt_parse::{Command, LineKind, parse_line};
+use tt_value::{Refusal, Value};
 
 /// What a line asks for.
 #[derive(Clone, Copy, Debug, PartialEq, Eq)]
 pub(crate) enum Request {
     Insert { key: i64, value: i64 },
     Commit,
-    /// A line of more than 4,096 bytes.
-    TooLong,
-    /// None of these.
-    Other,
+    /// Nothing: it is refused as it stands.
+    Refused(Refusal),
 }
 
-// What a line of at most 4,096 bytes asks for.
-pub(crate) fn read_request(line: &[u8]) -> Request
-    ensures { IsRequest (Some line.now) result }
+// What a line of at most 4,096 bytes asks for; `None` where it is skipped.
+pub(crate) fn read_request(alloc: Global, line: &[u8]) -> Option<Request>
+    requires { length line.now ≤ 4096 }
+    ensures skipped { (result ≡ None) ↔ (is_skipped line.now ≡ true) }
+    ensures request { IfSome result (λ request. IsRequest (Some line.now) request) }
 {
-    if line == b"commit".as_slice() {
-        return Request::Commit;
-    }
-    match read_insert(line) {
-        Some((key, value)) => Request::Insert { key, value },
-        None => Request::Other,
+    match parse_line(alloc, line) {
+        LineKind::Skip => None,
+        LineKind::Run { session, what } => Some(request_of(session, &what)),
     }
 }
 
-// The key and the value of a line that inserts.
-fn read_insert(line: &[u8]) -> Option<(i64, i64)>
-    ensures { MatchOption result ((key value : ℤ) → ¬ IsInsert line.now key value) (λ r. IsInsert line.now r.0 r.1) }
+fn request_of(session: u8, what: &Result<Command, Refusal>) -> Request
+    ensures { result ≡ request_of session what.now }
 {
-    let (key, value) = split_insert(line)?;
-    Some((read_number(key)?, read_number(value)?))
-}
-
-// The two texts that stand where the key and the value do.
-fn split_insert(line: &[u8]) -> Option<(&str, &str)>
-    ensures { MatchOption result ((key value : List ℕ) → IsAscii key → IsAscii value → line.now ≢ insert_text key value) (λ r. line.now ≡ insert_text r.0.now r.1.now) }
-{
-    let numbers = strip_insert(line)?;
-    split_numbers(numbers)
-}
-
-// What stands between the parentheses of a line that inserts.
-fn strip_insert(line: &[u8]) -> Option<&[u8]>
-    ensures { MatchOption result ((numbers : List ℕ) → line.now ≢ codes "insert into kv values (" ++ (numbers ++ codes ")")) (λ r. line.now ≡ codes "insert into kv values (" ++ (r.now ++ codes ")")) }
-{
-    line.strip_prefix(b"insert into kv values (")?
-        .strip_suffix(b")")
-}
-
-// The texts on both sides of a comma and a blank.
-fn split_numbers(numbers: &[u8]) -> Option<(&str, &str)>
-    ensures { MatchOption result ((key value : List ℕ) → IsAscii key → IsAscii value → numbers.now ≢ key ++ (codes ", " ++ value)) (λ r. numbers.now ≡ r.0.now ++ (codes ", " ++ r.1.now)) }
-{
-    match str::from_utf8(numbers) {
-        Ok(text) => text.split_once(", "),
-        Err(_) => None,
-    }
-}
-
-// The number that a text is: digits with no zero in front of others, after a minus or none.
-fn read_number(text: &str) -> Option<i64>
-    ensures { MatchOption result ((n : ℤ) → ¬ IsNumber text.now n) (λ n. IsNumber text.now n) }
-{
-    let bytes = text.as_bytes();
-    if is_plain(bytes.strip_prefix(b"-").unwrap_or(bytes)) {
-        text.parse().ok()
-    } else {
-        None
-    }
-}
-
-// Whether a text has no plus in front, and no zero in front of others.
-fn is_plain(digits: &[u8]) -> bool
-    ensures { IsTrue result ↔ (slice_index digits.now 0 ≢ 43) × ((slice_index digits.now 0 ≢ 48) ⊎ (length digits.now ≤ 1)) }
-{
-    match digits {
-        [b'+', ..] | [b'0', _, ..] => false,
-        _ => true,
-    }
-}
-
-#[cfg(test)]
-mod tests {
-    use super::*;
-
-    #[test]
-    fn reads_only_exact_lines(rt: HostRuntime) {
-        for (line, want) in [
-            ("commit", Request::Commit),
-            (
-                "insert into kv values (1, 10)",
-                Request::Insert { key: 1, value: 10 },
-            ),
-            (
-                "insert into kv values (-9223372036854775808, 9223372036854775807)",
-                Request::Insert {
-                    key: i64::MIN,
-                    value: i64::MAX,
-                },
-            ),
-            ("commit ", Request::Other),
-            ("insert into kv values (01, 2)", Request::Other),
-            ("insert into kv values (+1, 2)", Request::Other),
-            ("insert into kv values (1,2)", Request::Other),
-            (
-                "insert into kv values (9223372036854775808, 0)",
-                Request::Other,
-            ),
-            ("insert into kv values (1, 2) ", Request::Other),
-        ] {
-            assert_eq!(rt; read_request(line.as_bytes()), want, "at {line}");
+    match what {
+        Ok(command) => {
+            if session == 1 {
+                command_request(command)
+            } else {
+                Request::Refused(Refusal::NotBuilt)
+            }
         }
+        Err(refusal) => Request::Refused(*refusal),
+    }
+}
+
+fn command_request(command: &Command) -> Request
+    ensures { result ≡ command_request command.now }
+{
+    match command {
+        Command::Commit => Request::Commit,
+        Command::Insert { table, values } => {
+            if table.as_bytes() == b"kv".as_slice() {
+                row_request(values.as_slice())
+            } else {
+                Request::Refused(Refusal::NoTable)
+            }
+        }
+        _ => Request::Refused(Refusal::NotBuilt),
+    }
+}
+
+// The values of a row of kv: both columns take whole numbers, and no Null.
+fn row_request(values: &[Value]) -> Request
+    ensures { result ≡ row_request values.now }
+{
+    match values {
+        [Value::Int(key), Value::Int(value)] => Request::Insert {
+            key: *key,
+            value: *value,
+        },
+        [Value::Null, Value::Null | Value::Int(_)] | [Value::Int(_), Value::Null] => {
+            Request::Refused(Refusal::NullRefused)
+        }
+        _ => Request::Refused(Refusal::WrongType),
     }
 }

@@ -4,11 +4,11 @@ ghost use Rattle.tt_disk.specs.Causes.{HasCause, RoseWhere};
 ghost use Rattle.tt_disk.specs.Volume.{Keeps, bytes_of};
 ghost use Rattle.tt_gate.specs.Gate.{gated};
 ghost use Rattle.tt_run.specs.Opening.{opened, has_header, Refuses};
+ghost use Rattle.tt_run.specs.Replies.{IsShown};
 ghost use Rattle.tt_run.specs.Rows.{Row, rows_of, has_whole_rows, are_fresh};
 ghost use Rattle.tt_run.specs.Session.{Knows, IsAtRest, HasRows, LeavesRows, LeavesEither, Answers, IsReply, own_after, committed_after, Opens};
 
 use crate::load::{OpenRefusal, add_key, load};
-use crate::reply::{Refusal, Reply};
 use crate::request::Request;
 use crate::row::row_bytes;
 use crate::status::Damage;
@@ -16,6 +16,7 @@ use std::alloc::Global;
 use std::collections::BTreeSet;
 use tt_disk::{Failed, Name, Volume};
 use tt_gate::{GateFile, GateRefusal};
+use tt_value::{Refusal, Reply};
 
 /// The header of the log file 0: `TTLG`, the format 1, the file's number, zero; four bytes each.
 pub(crate) const HEADER: [u8; 16] = [84, 84, 76, 71, 0, 0, 0, 1, 0, 0, 0, 0, 0, 0, 0, 0];
@@ -54,6 +55,7 @@ impl Session {
     }
 
     fn insert(&mut self, key: i64, value: i64) -> Reply
+        ensures shown { IsShown result }
         ensures answers { (committed own : List Row) → Knows committed own self.old → Answers committed own (Request.Insert key value) self.new result }
         ensures file { self.new.file ≡ self.old.file }
     {
@@ -65,7 +67,7 @@ impl Session {
         match add_key(&mut self.keys, &row) {
             Ok(added) => {
                 if added {
-                    return Reply::Changed;
+                    return Reply::Changed(1);
                 }
                 self.batch.truncate(length);
                 Reply::Refused(Refusal::DuplicateKey)
@@ -106,6 +108,7 @@ impl Session {
     ) -> Result<Reply, Failed>
         requires rest { L.told → IsAtRest self.old (L.now logs.old) (L.may logs.old) }
         ensures answers { (committed own : List Row) → Knows committed own self.old → IfOk result (λ reply. Answers committed own request self.new reply) }
+        ensures shown { IfOk result IsShown }
         ensures fails { OnErr result (request ≡ Request.Commit) }
         ensures rest { L.told → OnOk result (IsAtRest self.new (L.now logs.new) (L.may logs.new)) }
         ensures rows { L.told → (committed own : List Row) → Knows committed own self.old → HasRows committed (L.now logs.old)
@@ -120,8 +123,7 @@ impl Session {
                 self.commit(logs)?;
                 Ok(Reply::Done)
             }
-            Request::TooLong => Ok(Reply::Refused(Refusal::LineTooLong)),
-            Request::Other => Ok(Reply::Refused(Refusal::Syntax)),
+            Request::Refused(refusal) => Ok(Reply::Refused(refusal)),
         }
     }
 }

@@ -3,14 +3,7 @@ ghost use Rattle.std.specs.Prelude.{◌≡◌};
 ghost use Rattle.tt_run.specs.Statuses.{exit_of};
 
 use std::fmt;
-
-/// The volume whose call failed.
-#[derive(Clone, Copy, Debug, PartialEq, Eq)]
-pub enum Stop {
-    Logs,
-    Images,
-    Backups,
-}
+use tt_value::Stop;
 
 /// What is wrong with the files of a database.
 #[derive(Clone, Copy, Debug, PartialEq, Eq)]

@@ -1,25 +1,28 @@
 // The top call.
-ghost use Rattle.std.specs.Prelude.{◌^◌, length, ◌≡◌, ◌≢◌, ◌<◌, ◌≤◌, ◌⊎◌, ◌↔◌, ◌++◌, ◌∷◌, [], ℕ, List, Option, Some, None, Ok, Err, OnOk, IfSome, IfNone, map, string_bytes};
-ghost use Rattle.tt_disk.specs.Causes.{Rose};
+ghost use Rattle.std.specs.Prelude.{◌^◌, length, ◌≡◌, ◌≢◌, ◌<◌, ◌≤◌, ◌⊎◌, ◌↔◌, ◌++◌, ◌∷◌, [], ℕ, List, Option, Some, None, Ok, Err, OnOk, OnErr, take, IfSome, IfNone, map, string_bytes};
+ghost use Rattle.std.specs.Io.KnownBytes.{Appends};
+ghost use Rattle.tt_disk.specs.Causes.{HasCause, Rose};
 ghost use Rattle.tt_disk.specs.Volume.{Keeps};
 ghost use Rattle.tt_flow.specs.Reading.{HasGiven, bytes_to_come};
 ghost use Rattle.tt_run.specs.Opening.{opened};
+ghost use Rattle.tt_run.specs.Replies.{IsShown, text_of};
 ghost use Rattle.tt_run.specs.Rows.{Row};
 ghost use Rattle.tt_run.specs.Runs.{HasRun, EndsRows, IsRunning, IsRunEnd, IsStep, IsNext, IsScriptEnd, IsOpenFault, status_of, IsRun, IsBeforeLines, IsFaultOf, IsCreateText, IsCreated, IsOpened};
 ghost use Rattle.tt_run.specs.Session.{Knows, IsAtRest, LeavesRows, LeavesNoLog, LeavesNoRow};
 ghost use Rattle.tt_run.specs.Words.{form_of};
 
 use crate::load::OpenRefusal;
-use crate::reply::Reply;
+use crate::reply::reply_text;
 use crate::request::{Request, read_request};
 use crate::session::{HEADER, Session};
-use crate::status::{Status, Stop};
+use crate::status::Status;
 use crate::words::{Action, read_words};
 use std::alloc::Global;
 use std::thread::Threads;
-use tt_disk::{Name, Volume};
+use tt_disk::{Failed, Name, Volume};
 use tt_flow::{LineBuf, LineRead, LineReader, Sink, Source};
 use tt_gate::GateFile;
+use tt_value::{Refusal, Reply, Stop};
 
 /// Does what the words ask for: `create DIR` makes a database, `run DIR` does the lines of the script and writes the reply to each.
 pub fn run<
@@ -134,7 +137,7 @@ fn run_script<S: Source, K: Sink, L: Volume>(
     ensures cause { IsFaultOf result (Rose (S.faults script.old) (S.faults script.new)) (Rose (K.faults sink.old) (K.faults sink.new)) (Rose (L.faults logs.old) (L.faults logs.new)) ⊥ ⊥ }
 {
     match Session::open(alloc, logs) {
-        Ok(session) => do_lines(session, script, sink, logs),
+        Ok(session) => do_lines(alloc, session, script, sink, logs),
         Err(OpenRefusal::NoDatabase) => Status::NoDatabase,
         Err(OpenRefusal::Damaged(damage)) => Status::Damaged(damage),
         Err(OpenRefusal::Failed) => Status::VolumeFault(Stop::Logs),
@@ -144,6 +147,7 @@ fn run_script<S: Source, K: Sink, L: Volume>(
 
 // Does the lines of the script, up to the first that fails.
 fn do_lines<S: Source, K: Sink, L: Volume>(
+    alloc: Global,
     session: Session,
     script: &mut S,
     sink: &mut K,
@@ -159,7 +163,15 @@ fn do_lines<S: Source, K: Sink, L: Volume>(
     let mut reader = LineReader::new();
     let mut line = LineBuf::new();
     'lines: loop {
-        match do_line(&mut session, &mut reader, &mut line, script, sink, logs) {
+        match do_line(
+            alloc,
+            &mut session,
+            &mut reader,
+            &mut line,
+            script,
+            sink,
+            logs,
+        ) {
             Some(status) => return status,
             None => {}
         }
@@ -168,6 +180,7 @@ fn do_lines<S: Source, K: Sink, L: Volume>(
 
 // Does the next line; answers a status where the run ends with it.
 fn do_line<S: Source, K: Sink, L: Volume>(
+    alloc: Global,
     session: &mut Session,
     reader: &mut LineReader,
     line: &mut LineBuf,
@@ -184,26 +197,39 @@ fn do_line<S: Source, K: Sink, L: Volume>(
     ensures cause { IfSome result (λ status. IsRunEnd status (Rose (S.faults script.old) (S.faults script.new)) (Rose (K.faults sink.old) (K.faults sink.new)) (Rose (L.faults logs.old) (L.faults logs.new))) }
     ensures later { (S.faults script.old ≤ S.faults script.new) × (K.faults sink.old ≤ K.faults sink.new) × (L.faults logs.old ≤ L.faults logs.new) }
 {
-    let request = match next_request(reader, line, script) {
-        Ok(request) => request,
+    let request = match next_request(alloc, reader, line, script) {
+        Ok(Some(request)) => request,
+        Ok(None) => return None,
         Err(status) => return Some(status),
     };
     let reply = match session.answer(logs, request) {
         Ok(reply) => reply,
         Err(_) => return Some(Status::VolumeFault(Stop::Logs)),
     };
-    match sink.put(reply.text()) {
+    match put_reply(sink, reply) {
         Ok(()) => None,
         Err(_) => Some(Status::SinkFault),
     }
 }
 
-// What the next line asks for; a status where there is none.
+// Writes the text of a reply.
+fn put_reply<K: Sink>(sink: &mut K, reply: Reply) -> Result<(), Failed>
+    requires { IsShown reply }
+    ensures whole { OnOk result (Appends (K.given sink.old) (K.given sink.new) (text_of reply)) }
+    ensures prefix { OnErr result ((n : ℕ) × Appends (K.given sink.old) (K.given sink.new) (take n (text_of reply))) }
+    ensures cause { HasCause (K.faults sink.old) (K.faults sink.new) result }
+{
+    let text = reply_text(&reply);
+    sink.put(text.as_slice())
+}
+
+// What the next line asks for, if it is answered; a status where there is no line.
 fn next_request<S: Source>(
+    alloc: Global,
     reader: &mut LineReader,
     line: &mut LineBuf,
     script: &mut S,
-) -> Result<Request, Status>
+) -> Result<Option<Request>, Status>
     ensures read { (bytes left : List ℕ) (given : List (Option (List ℕ))) → S.left script.old ≡ Some left → HasGiven bytes given reader.old left
         → IsNext bytes given result reader.new (S.left script.new) }
     ensures fewer { OnOk result (bytes_to_come reader.new < bytes_to_come reader.old) }
@@ -211,8 +237,8 @@ fn next_request<S: Source>(
     ensures later { S.faults script.old ≤ S.faults script.new }
 {
     match reader.next(script, line) {
-        Ok(LineRead::Line) => Ok(read_request(line.line())),
-        Ok(LineRead::TooLong) => Ok(Request::TooLong),
+        Ok(LineRead::Line) => Ok(read_request(alloc, line.line())),
+        Ok(LineRead::TooLong) => Ok(Some(Request::Refused(Refusal::LineTooLong))),
         Ok(LineRead::End) => Err(Status::Done),
         Ok(LineRead::ScriptTooLong) => Err(Status::ScriptTooLong),
         Err(_) => Err(Status::ScriptFault),

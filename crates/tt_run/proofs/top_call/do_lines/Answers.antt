@@ -36,12 +36,12 @@ lines-preserved g c = record {
   volumes = omega (arith, c.do_line.ensures.later.2, c.lines.invariant.volumes);
   running = λ bytes found told knows.
       let (answered, left, is_left, running, moves) = c.lines.invariant.running bytes found told knows in
-      let (line, rest, told_rest, goes, more) = c.in-None.ensures.step bytes left found (g.K.Sink.given c.args.sink.now) answered is_left running in (
-        answered ++ line ∷ [],
+      let (lines, rest, told_rest, goes, more) = c.in-None.ensures.step bytes left found (g.K.Sink.given c.args.sink.now) answered is_left running in (
+        answered ++ lines,
         rest,
         told_rest,
         goes,
-        moved_twice g.L.Volume.told found (committed_rows found answered) (committed_rows found (answered ++ line ∷ [])) (g.L.Volume.now c.args.logs.now) (g.L.Volume.now c.lines.logs) (g.L.Volume.now c.do_line.new.logs)
+        moved_twice g.L.Volume.told found (committed_rows found answered) (committed_rows found (answered ++ lines)) (g.L.Volume.now c.args.logs.now) (g.L.Volume.now c.lines.logs) (g.L.Volume.now c.do_line.new.logs)
             (g.L.Volume.may c.args.logs.now) (g.L.Volume.may c.lines.logs) (g.L.Volume.may c.do_line.new.logs) moves more,
       );
 }

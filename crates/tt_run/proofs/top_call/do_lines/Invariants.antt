@@ -1,6 +1,6 @@
 use Rattle.std.proofs.Common.{◌≡◌, ◌≤◌, [], Some, List, ℕ}
 use Rattle.tt_flow.specs.Reading.{bytes_to_come}
-use Rattle.tt_run.specs.declared.reply.Reply.{Reply}
+use Rattle.tt_value.specs.declared.reply.Reply.{Reply}
 use Rattle.tt_run.specs.declared.request.Request.{Request}
 use Rattle.tt_run.specs.Rows.{Row}
 use Rattle.tt_run.specs.Runs.{IsRunning, MovesRows}

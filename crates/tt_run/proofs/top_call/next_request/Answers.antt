@@ -2,18 +2,18 @@ use Rattle.std.proofs.Common.{◌∙◌, Ok, Some, None, Result, List, ℕ, ap, 
 use Rattle.tt_disk.specs.declared.volume.Failed.{Failed}
 use Rattle.tt_flow.specs.Reading.{Reads}
 use Rattle.tt_flow.specs.declared.lines.LineRead.{LineRead}
-use Rattle.tt_run.specs.Requests.{IsRequest}
+use Rattle.tt_run.proofs.RunLemmas.{read_next}
 use Rattle.tt_run.proofs.top_call.next_request.Goals as goal
 
 pub returns-in-Ok-Line-clause-read : goal.returns-in-Ok-Line-clause-read
 returns-in-Ok-Line-clause-read g c = λ bytes left given told has.
     let read = subst (λ (r : Result LineRead Failed). Reads bytes given r c.next.new.line c.next.new.self (g.S.Source.left c.next.new.source)) (c.in-Ok-Line.is ∙ ap (λ (l : LineRead). Ok l) c.in-Ok-Line.field-0-is) (c.next.ensures.read bytes left given told has) in
-    (Some c.next.new.line, subst (λ (l : List ℕ). IsRequest (Some l) c.read_request.result) c.line.ensures c.read_request.ensures, read)
+    read_next bytes given c.line.result.now c.next.new.line c.read_request.result c.next.new.self (g.S.Source.left c.next.new.source) c.line.ensures.line c.read_request.ensures.skipped c.read_request.ensures.request read
 
 pub returns-in-Ok-TooLong-clause-read : goal.returns-in-Ok-TooLong-clause-read
 returns-in-Ok-TooLong-clause-read g c = λ bytes left given told has.
     let read = subst (λ (r : Result LineRead Failed). Reads bytes given r c.next.new.line c.next.new.self (g.S.Source.left c.next.new.source)) (c.in-Ok-TooLong.is ∙ ap (λ (l : LineRead). Ok l) c.in-Ok-TooLong.field-0-is) (c.next.ensures.read bytes left given told has) in
-    (None, refl, read)
+    (None, refl, refl, read)
 
 pub returns-in-Ok-End-clause-read : goal.returns-in-Ok-End-clause-read
 returns-in-Ok-End-clause-read g c = λ bytes left given told has.
