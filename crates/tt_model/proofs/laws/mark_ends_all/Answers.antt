@@ -1,0 +1,10 @@
+use Rattle.tt_model.proofs.laws.mark_ends_all.Goals as goal
+use Rattle.tt_model.proofs.AppendLemmas.{live-Change, live-Commit, live-Mark, live-behind_mark}
+
+pub returns : goal.returns
+returns c = record {
+  change = live-Change;
+  commit = live-Commit;
+  mark = live-Mark;
+  behind = live-behind_mark;
+}
