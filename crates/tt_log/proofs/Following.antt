@@ -1,0 +1,140 @@
+-- The walk from one file to the next.
+use Rattle.std.proofs.Common.{◌≡◌, inl, inr, ◌<◌, ◌≤◌, ◌+◌, ◌-◌, ℕ, suc, List, [], ◌++◌, Bool, true, false, Option, Result, Ok, Err, refl, sym, ap, ◌∙◌, subst, arith, take}
+use Rattle.tt_disk.specs.declared.volume.Name.TheVariants.{Log}
+use Rattle.tt_disk.specs.Volume.{bytes_of}
+use Rattle.tt_value.specs.declared.position.Position.{Position}
+use Rattle.tt_gate.specs.Gate.{whole_bodies}
+use Rattle.tt_gate.specs.Standing.{IsSo}
+use Rattle.tt_gate.specs.declared.gate.GateRefusal.{GateRefusal}
+use Rattle.tt_gate.specs.declared.gate.GateRefusal.TheVariants.{Absent, BadHeader, BadBatch as GateBad, Failed as GateFailed}
+use Rattle.tt_record.specs.declared.entry.Entry.{Entry}
+use Rattle.tt_record.specs.Places.{position}
+use Rattle.tt_log.specs.Lengths.{total}
+use Rattle.tt_log.specs.declared.file.FileEnd.{FileEnd}
+use Rattle.tt_log.specs.declared.refusal.LogRefusal.{LogRefusal}
+use Rattle.tt_log.specs.declared.refusal.LogRefusal.TheVariants.{Gap, BadBatch}
+use Rattle.tt_log.specs.Walk.{Files, Found, same_bytes, log_header, part_of, file_read, placed, in_front, on_part, walk, log_of}
+use Rattle.tt_log.specs.Rests.{IsRefused}
+use Rattle.tt_log.specs.Starts.{has_place, where_place, started}
+use Rattle.tt_log.specs.Ends.{IsEnd, HasEnd, IsFileEnd, FoundEnd, IsFollowed, EndsIn}
+use Rattle.tt_log.proofs.FileParts.{never_bad}
+use Rattle.tt_log.proofs.Heads.{file_gap}
+use Rattle.tt_log.proofs.Walks.{in_front_twice, last_of}
+
+abbrev pub Standing : Type 0
+Standing = Result Found LogRefusal
+
+fuel : (most n : ℕ) (files : Files) → 1000000 - n ≡ suc most → 1000000 - (n + 1) ≡ most → walk (1000000 - n) n files ≡ on_part n (file_read n (files (Log n))) (walk (1000000 - (n + 1)) (n + 1) files)
+fuel most n files one two = ap (λ (k : ℕ). walk k n files) one ∙ ap (λ (k : ℕ). on_part n (file_read n (files (Log n))) (walk k (n + 1) files)) (sym two)
+
+-- one file, and those behind it
+pub log_step : (n : ℕ) (files : Files) → n < 1000000 → log_of n files ≡ on_part n (file_read n (files (Log n))) (log_of (n + 1) files)
+unfolding log_of
+log_step n files below = fuel (1000000 - (n + 1)) n files (omega (arith, below)) refl
+
+pub log_past : (n : ℕ) (files : Files) → 1000000 ≤ n → log_of n files ≡ Err (Gap n)
+unfolding log_of
+log_past n files above = ap (λ (k : ℕ). walk k n files) (let none : 1000000 - n ≡ 0 = omega (arith, above) in none)
+
+-- the walk from n has passed all files before k
+pub record GoneTo (n k : ℕ) (files : Files) : Type 0 where
+  pub front : List (Position × Entry)
+  pub is : log_of n files ≡ in_front front (log_of k files)
+
+in_front_none : (r : Standing) → r ≡ in_front [] r
+in_front_none (Ok found) = refl
+in_front_none (Err e) = refl
+
+pub gone_none : (n : ℕ) (files : Files) → GoneTo n n files
+gone_none n files = record { front = []; is = in_front_none (log_of n files) }
+
+pub gone_more : (n k : ℕ) (files : Files) (end : FileEnd) → k < 1000000 → GoneTo n k files → IsEnd (file_read k (files (Log k))) end → end.turned ≡ true → GoneTo n (k + 1) files
+gone_more n k files end below g e turned = record {
+  front = g.front ++ placed k 0 e.es;
+  is = g.is ∙ ap (in_front g.front) (log_step k files below ∙ ap (λ p. on_part k p (log_of (k + 1) files)) (e.is ∙ ap (λ (b : Bool). Ok (e.es, b)) turned))
+      ∙ in_front_twice g.front (placed k 0 e.es) (log_of (k + 1) files);
+}
+
+pub gone_end : (n k : ℕ) (files : Files) (end : FileEnd) → k < 1000000 → GoneTo n k files → IsEnd (file_read k (files (Log k))) end → end.turned ≡ false → FoundEnd (log_of n files) (position k end.total)
+gone_end n k files end below g e turned = record {
+  found = record { entries = g.front ++ placed k 0 e.es; end = position k (total e.es) };
+  is = g.is ∙ ap (in_front g.front) (log_step k files below ∙ ap (λ p. on_part k p (log_of (k + 1) files)) (e.is ∙ ap (λ (b : Bool). Ok (e.es, b)) turned));
+  end = ap (λ (j : ℕ). position k j) e.long;
+}
+
+pub gone_refused : (n k : ℕ) (files : Files) (e : LogRefusal) → k < 1000000 → GoneTo n k files → IsRefused e (file_read k (files (Log k))) → IsFollowed (log_of n files) (Err e)
+gone_refused n k files e below g (inl failed) = inl failed
+gone_refused n k files e below g (inr (inl wanting)) = inr (inl wanting)
+gone_refused n k files e below g (inr (inr is)) = inr (inr (g.is ∙ ap (in_front g.front) (log_step k files below ∙ ap (λ p. on_part k p (log_of (k + 1) files)) is)))
+
+pub end_answered : (wanted n : ℕ) (file other : Option (List ℕ)) (r : Result FileEnd LogRefusal) (end : FileEnd) → IsFileEnd wanted (file_read n file) r → r ≡ Ok end → file ≡ other → HasEnd wanted (file_read n other) end
+end_answered wanted n file other r end says is same =
+    let P : Result FileEnd LogRefusal → Type 0 = λ q. IsFileEnd wanted (file_read n file) q in
+    let h : HasEnd wanted (file_read n file) end = subst P is says in
+    subst (λ o. HasEnd wanted (file_read n o) end) same h
+
+pub end_refused : (wanted n : ℕ) (file other : Option (List ℕ)) (r : Result FileEnd LogRefusal) (e : LogRefusal) → IsFileEnd wanted (file_read n file) r → r ≡ Err e → file ≡ other → IsRefused e (file_read n other)
+end_refused wanted n file other r e says is same =
+    let P : Result FileEnd LogRefusal → Type 0 = λ q. IsFileEnd wanted (file_read n file) q in
+    let h : IsRefused e (file_read n file) = subst P is says in
+    subst (λ o. IsRefused e (file_read n o)) same h
+
+-- ---- a position from which the log is walked
+
+where_true : (from : Position) (r : Standing) → where_place from true r ≡ r
+where_true from (Ok found) = refl
+where_true from (Err e) = refl
+
+has_is : (from : Position) (files : Files) (first : FileEnd) → HasEnd from.offset (file_read from.file (files (Log from.file))) first → started from files ≡ where_place from first.is_place (log_of from.file files)
+has_is from files first h =
+    ap (λ p. where_place from (has_place from.offset p) (log_of from.file files)) h.end_is.is ∙ ap (λ (b : Bool). where_place from b (log_of from.file files)) (sym h.place)
+
+pub place_there : (from : Position) (files : Files) (first : FileEnd) → HasEnd from.offset (file_read from.file (files (Log from.file))) first → first.is_place ≡ true → started from files ≡ log_of from.file files
+place_there from files first h is = has_is from files first h ∙ ap (λ (b : Bool). where_place from b (log_of from.file files)) is ∙ where_true from (log_of from.file files)
+
+pub place_not : (from at : Position) (files : Files) (first : FileEnd) → HasEnd from.offset (file_read from.file (files (Log from.file))) first → first.is_place ≡ false → FoundEnd (log_of from.file files) at → started from files ≡ Err (BadBatch from.file 0)
+place_not from at files first h is f = has_is from files first h ∙ ap (λ (b : Bool). where_place from b (log_of from.file files)) is ∙ ap (where_place from false) f.is
+
+pub found_by : (r other : Standing) (at : Position) → other ≡ r → FoundEnd r at → FoundEnd other at
+found_by r other at same f = record { found = f.found; is = same ∙ f.is; end = f.end }
+
+pub followed_ok : (r : Standing) (q : Result Position LogRefusal) (at : Position) → IsFollowed r q → q ≡ Ok at → FoundEnd r at
+followed_ok r q at says is = let P : Result Position LogRefusal → Type 0 = λ p. IsFollowed r p in subst P is says
+
+start_refused_by : (from : Position) (files : Files) (e : LogRefusal) → log_of from.file files ≡ Err e → started from files ≡ Err e
+start_refused_by from files e is = ap (where_place from (has_place from.offset (file_read from.file (files (Log from.file))))) is
+
+pub start_refused : (from : Position) (files : Files) (q : Result Position LogRefusal) (e : LogRefusal) → IsFollowed (log_of from.file files) q → q ≡ Err e → IsFollowed (started from files) (Err e)
+start_refused from files q e says is = let P : Result Position LogRefusal → Type 0 = λ p. IsFollowed (log_of from.file files) p in by_cause (subst P is says)
+  where
+    by_cause : IsFollowed (log_of from.file files) (Err e) → IsFollowed (started from files) (Err e)
+    by_cause (inl failed) = inl failed
+    by_cause (inr (inl wanting)) = inr (inl wanting)
+    by_cause (inr (inr same)) = inr (inr (start_refused_by from files e same))
+
+pub first_refused : (from : Position) (files : Files) (e : LogRefusal) → from.file < 1000000 → IsRefused e (file_read from.file (files (Log from.file))) → IsFollowed (started from files) (Err e)
+first_refused from files e below refused = start_refused from files (Err e) e (gone_refused from.file from.file files e below (gone_none from.file files) refused) refl
+
+pub start_past : (from : Position) (files : Files) → 1000000 ≤ from.file → IsFollowed (started from files) (Err (Gap from.file))
+start_past from files above = inr (inr (start_refused_by from files (Gap from.file) (log_past from.file files above)))
+
+-- ---- the last file
+
+abbrev no_end : Result (List Entry × Bool) LogRefusal → List Entry → Type 0
+no_end part es = part ≡ Ok (es, false)
+
+pub so_failed : (n : ℕ) (file : Option (List ℕ)) (e : GateRefusal) (es : List Entry) → file_read n file ≡ Ok (es, false) → IsSo (log_header n) file e → e ≡ GateFailed
+unfolding file_read
+so_failed n file Absent es is so = absurd (let gap : file_read n file ≡ Err (Gap n) = ap (file_read n) so in let bad : no_end (Err (Gap n)) es = sym gap ∙ is in cc)
+so_failed n file BadHeader es is so = absurd (let gap : file_read n file ≡ Err (Gap n) = file_gap n file (λ h. so.1 h) in let bad : no_end (Err (Gap n)) es = sym gap ∙ is in cc)
+so_failed n file (GateBad at) es is so =
+    absurd (never_bad n at [] (whole_bodies file) (same_bytes (take 16 (bytes_of file)) (log_header n)) es (ap (part_of n file) (sym so.1) ∙ is))
+so_failed n file GateFailed es is so = refl
+
+-- the file in which a walk ends is the last one
+pub last_ends : (first : ℕ) (files : Files) (at : Position) → FoundEnd (log_of first files) at → EndsIn (file_read at.file (files (Log at.file)))
+unfolding log_of
+last_ends first files at f =
+    let l = last_of (1000000 - first) first files f.found f.is in
+    let same : l.last ≡ at.file = sym (ap (λ (g : Found). g.end.file) l.is) ∙ ap (λ (p : Position). p.file) f.end in
+    record { es = l.es; is = subst (λ (k : ℕ). file_read k (files (Log k)) ≡ Ok (l.es, false)) same l.reads }

@@ -1,0 +1,104 @@
+-- How far the entries of a file were read.
+use Rattle.std.proofs.Common.{◌≡◌, inl, inr, ◌+◌, ◌==◌, ◌||◌, ℕ, List, [], ◌++◌, length, Bool, true, false, Option, Some, Result, Ok, Err, refl, sym, ap, ◌∙◌, subst, arith, append_assoc}
+use Rattle.std.proofs.lemmas.List.{append-nil}
+use Rattle.std.specs.Prelude.{Vec}
+use Rattle.std.specs.declared.alloc.Global.{Global}
+use Rattle.tt_record.specs.declared.entry.Entry.{Entry}
+use Rattle.tt_record.specs.Reading.{entries_of}
+use Rattle.tt_log.specs.Lengths.{total}
+use Rattle.tt_log.specs.declared.batch.Batch.{Batch}
+use Rattle.tt_log.specs.declared.batch.Batch.TheVariants.{Closed, Turned, Entries}
+use Rattle.tt_log.specs.declared.file.FileEnd.{FileEnd}
+use Rattle.tt_log.specs.declared.file.Reached.{Reached}
+use Rattle.tt_log.specs.declared.file.Went.{Went}
+use Rattle.tt_log.specs.declared.file.Went.TheVariants.{Ends}
+use Rattle.tt_log.specs.declared.refusal.LogRefusal.{LogRefusal}
+use Rattle.tt_log.specs.Walk.{Part, before, file_read}
+use Rattle.tt_log.specs.Rests.{rest_read, IsHeaded, IsRefused, IsBatch, IsPlain}
+use Rattle.tt_log.specs.Starts.{starts_at}
+use Rattle.tt_log.specs.Ends.{HasEnd, HasGone, IsFileEnd, IsReached}
+use Rattle.tt_log.proofs.Heads.{file_headed}
+use Rattle.tt_log.proofs.Sums.{total_more}
+use Rattle.tt_log.proofs.Skips.{starts_both}
+
+abbrev Bytes : Type 0
+Bytes = Vec ℕ Global
+
+abbrev Answer : Type 0
+Answer = Result Batch LogRefusal
+
+pub is_closed : (n gate offset : ℕ) (file : Option (List ℕ)) (r : Answer) (b : Batch) → IsBatch n gate offset file r → r ≡ Ok b → b ≡ Closed → rest_read n gate offset file ≡ Ok ([], false)
+is_closed n gate offset file r b says is one =
+    let P : Answer → Type 0 = λ q. IsBatch n gate offset file q in
+    subst P (is ∙ ap (λ (k : Batch). Ok k) one) says
+
+pub is_turned : (n gate offset : ℕ) (file : Option (List ℕ)) (r : Answer) (b : Batch) → IsBatch n gate offset file r → r ≡ Ok b → b ≡ Turned → rest_read n gate offset file ≡ Ok ([], true)
+is_turned n gate offset file r b says is one =
+    let P : Answer → Type 0 = λ q. IsBatch n gate offset file q in
+    subst P (is ∙ ap (λ (k : Batch). Ok k) one) says
+
+pub is_refused : (n gate offset : ℕ) (file : Option (List ℕ)) (r : Answer) (e : LogRefusal) → IsBatch n gate offset file r → r ≡ Err e → IsRefused e (rest_read n gate offset file)
+is_refused n gate offset file r e says is =
+    let P : Answer → Type 0 = λ q. IsBatch n gate offset file q in
+    subst P is says
+
+pub ended : (wanted n : ℕ) (file : Option (List ℕ)) (at : Reached) (end : FileEnd) (turned : Bool) → IsReached wanted n file at → rest_read n at.gate at.offset file ≡ Ok ([], turned)
+    → end.total ≡ at.offset → end.turned ≡ turned → end.is_place ≡ (at.starts || (at.offset == wanted)) → HasEnd wanted (rest_read n 16 0 file) end
+ended wanted n file at end turned r rest total_is turned_is place = record {
+  end_is = record {
+    es = r.es;
+    is = r.is ∙ ap (before r.es) rest ∙ ap (λ (l : List Entry). Ok (l, turned)) (append-nil r.es) ∙ ap (λ (b : Bool). Ok (r.es, b)) (sym turned_is);
+    long = r.long ∙ sym total_is;
+  };
+  place = place ∙ ap (λ (b : Bool). b || (at.offset == wanted)) r.starts ∙ ap (λ (k : ℕ). starts_at wanted 0 r.es || (k == wanted)) (sym r.long);
+}
+
+before_twice : (es fs : List Entry) (part : Part) → before es (before fs part) ≡ before (es ++ fs) part
+before_twice es fs (Ok part) = ap (λ (l : List Entry). Ok (l, part.1)) (sym (append_assoc es fs part.0))
+before_twice es fs (Err e) = refl
+
+pub reached_more : (wanted n : ℕ) (file : Option (List ℕ)) (at next : Reached) (body : List ℕ) → IsReached wanted n file at → IsPlain n at.gate at.offset file body → next.gate ≡ at.gate + 9 + length body → next.offset ≡ at.offset + length body
+    → ((es : List Entry) → entries_of body ≡ Some es → total es ≡ length body → next.starts ≡ (at.starts || starts_at wanted at.offset es)) → IsReached wanted n file next
+reached_more wanted n file at next body r p gate offset starts = record {
+  es = r.es ++ p.es;
+  is = r.is ∙ ap (before r.es) p.goes ∙ before_twice r.es p.es (rest_read n (at.gate + 9 + length body) (at.offset + length body) file)
+      ∙ ap (λ (k : ℕ). before (r.es ++ p.es) (rest_read n k (at.offset + length body) file)) (sym gate) ∙ ap (λ (k : ℕ). before (r.es ++ p.es) (rest_read n next.gate k file)) (sym offset);
+  long = total_more r.es p.es ∙ omega (arith, r.long, p.long, offset);
+  starts = starts p.es p.is p.long ∙ ap (λ (b : Bool). b || starts_at wanted at.offset p.es) r.starts
+      ∙ ap (λ (k : ℕ). starts_at wanted 0 r.es || starts_at wanted k p.es) (let e : at.offset ≡ 0 + total r.es = omega (arith, r.long) in e) ∙ sym (starts_both wanted 0 r.es p.es);
+}
+
+pub refused_before : (wanted n : ℕ) (file : Option (List ℕ)) (at : Reached) (e : LogRefusal) → IsReached wanted n file at → IsRefused e (rest_read n at.gate at.offset file) → IsRefused e (rest_read n 16 0 file)
+refused_before wanted n file at e r (inl failed) = inl failed
+refused_before wanted n file at e r (inr (inl wanting)) = inr (inl wanting)
+refused_before wanted n file at e r (inr (inr is)) = inr (inr (r.is ∙ ap (before r.es) is))
+
+none_before : (part : Part) → part ≡ before [] part
+none_before (Ok part) = refl
+none_before (Err e) = refl
+
+pub at_start : (wanted n : ℕ) (file : Option (List ℕ)) (at : Reached) → at.gate ≡ 16 → at.offset ≡ 0 → at.starts ≡ false → IsReached wanted n file at
+at_start wanted n file at gate offset starts = record {
+  es = [];
+  is = none_before (rest_read n 16 0 file) ∙ ap (λ (k : ℕ). before [] (rest_read n k 0 file)) (sym gate) ∙ ap (λ (k : ℕ). before [] (rest_read n at.gate k file)) (sym offset);
+  long = sym offset;
+  starts = starts;
+}
+
+pub end_by : (wanted : ℕ) (part other : Part) (end : FileEnd) → other ≡ part → HasEnd wanted part end → HasEnd wanted other end
+end_by wanted part other end same h = subst (λ (p : Part). HasEnd wanted p end) (sym same) h
+
+pub is_plain : (n gate offset : ℕ) (file : Option (List ℕ)) (r : Answer) (b : Batch) (body : Bytes) → IsBatch n gate offset file r → r ≡ Ok b → b ≡ Entries body → IsPlain n gate offset file body.items
+is_plain n gate offset file r b body says is one =
+    let P : Answer → Type 0 = λ q. IsBatch n gate offset file q in
+    subst P (is ∙ ap (λ (k : Batch). Ok k) one) says
+
+pub gone_ends : (wanted n : ℕ) (file other : Option (List ℕ)) (r : Result Went LogRefusal) (w : Went) (end : FileEnd) → HasGone wanted n file r → r ≡ Ok w → w ≡ Ends end → file ≡ other → HasEnd wanted (rest_read n 16 0 other) end
+gone_ends wanted n file other r w end says is one same =
+    let P : Result Went LogRefusal → Type 0 = λ q. HasGone wanted n file q in
+    let h : HasEnd wanted (rest_read n 16 0 file) end = subst P (is ∙ ap (λ (k : Went). Ok k) one) says in
+    subst (λ o. HasEnd wanted (rest_read n 16 0 o) end) same h
+
+pub file_end_same : (wanted n : ℕ) (file other : Option (List ℕ)) (r : Result FileEnd LogRefusal) → IsHeaded n other → file ≡ other → IsFileEnd wanted (rest_read n 16 0 file) r → IsFileEnd wanted (file_read n other) r
+file_end_same wanted n file other r headed same is =
+    subst (λ (p : Part). IsFileEnd wanted p r) (ap (rest_read n 16 0) same ∙ sym (file_headed n other headed)) is

@@ -1,0 +1,16 @@
+use Rattle.tt_disk.specs.declared.volume.Name.TheVariants.{Log as LogFile}
+use Rattle.std.proofs.Common.{sym, refl}
+use Rattle.tt_log.proofs.Following.{start_past, end_answered, end_refused, first_refused}
+use Rattle.tt_log.proofs.start.find_entries.Goals as goal
+
+pub returns-then-from-ge-LOG_FILES_END-clause-exact : goal.returns-then-from-ge-LOG_FILES_END-clause-exact
+returns-then-from-ge-LOG_FILES_END-clause-exact g c told = start_past c.args.from (g.V.Volume.now c.args.volume.now) c.if-from-ge-LOG_FILES_END.true
+
+pub follow_from-requires-clause-end : goal.follow_from-requires-clause-end
+follow_from-requires-clause-end g c told =
+    end_answered c.args.from.offset c.args.from.file _ _ c.read_file.result c.in-Ok.first (c.read_file.ensures.exact told) c.in-Ok.is (sym ((c.read_file.ensures.keeps told).reads (LogFile c.args.from.file)))
+
+pub returns-in-Err-clause-exact : goal.returns-in-Err-clause-exact
+returns-in-Err-clause-exact g c told =
+    first_refused c.args.from (g.V.Volume.now c.args.volume.now) c.in-Err.refusal c.if-from-ge-LOG_FILES_END.false
+    (end_refused c.args.from.offset c.args.from.file _ _ c.read_file.result c.in-Err.refusal (c.read_file.ensures.exact told) c.in-Err.is refl)

@@ -1,0 +1,10 @@
+pub mod Lengths
+pub mod Walk
+pub mod Logs
+pub mod Bodies
+pub mod Rests
+pub mod Fits
+pub mod Starts
+pub mod Ends
+pub mod Scans
+pub mod Laws

@@ -1,0 +1,380 @@
+// The entries of a log in their order.
+ghost use Rattle.std.specs.Prelude.{◌≡◌, ◌⊎◌, ◌<◌, ◌≤◌, ◌+◌, ◌-◌, ◌^◌, [], ◌∷◌, length, not, true, false};
+ghost use Rattle.std.specs.Prelude.{IfOk, IfErr, IfSome, OnOk, IsErrOf};
+ghost use Rattle.tt_disk.specs.Causes.{RoseWhere};
+ghost use Rattle.tt_disk.specs.Volume.{Keeps};
+ghost use Rattle.tt_record.specs.declared.entry.Entry.{Entry};
+ghost use Rattle.tt_record.specs.Entries.{IsEntry};
+ghost use Rattle.tt_log.specs.Walk.{Files, file_most, is_from, in_front};
+ghost use Rattle.tt_log.specs.declared.refusal.LogRefusal.TheVariants.{Failed, NoMemory};
+
+use crate::batch::{Batch, check_header, read_batch};
+use crate::body::entry_behind;
+use crate::log::Log;
+use crate::refusal::LogRefusal;
+use std::alloc::Global;
+use tt_disk::Volume;
+use tt_record::Entry;
+use tt_value::Position;
+
+/// A pass over the forced entries of a log, from a position on. It reads each file once, batch by batch.
+#[derive(Debug, Drop)]
+pub struct Scan {
+    from: Position,
+    file: u32,
+    // Whether the file's header was read.
+    begun: bool,
+    // The next gate of the file.
+    gate: u64,
+    // Where the next entry stands in the file.
+    offset: u32,
+    // The body of the batch before the gate, and where its next entry begins.
+    body: Vec<u8>,
+    at: usize,
+    ghost inside: { at ≤ length body.items },
+    ghost gates: { (16 ≤ gate) × (gate < 2 ^ 62) },
+    ghost offsets: { offset + (length body.items - at) ≤ file_most },
+}
+
+// What was read next.
+#[derive(Clone, Copy, Debug, PartialEq, Eq)]
+enum Loaded {
+    // Entries.
+    Body,
+    // The Switch: the next file is to be read.
+    Turned,
+    // Nothing: the log ends here.
+    Nothing,
+}
+
+fn is_before(at: Position, from: Position) -> bool
+    ensures { (entry : Entry) → result ≡ not (is_from from (at, entry)) }
+{
+    at.file < from.file || (at.file == from.file && at.offset < from.offset)
+}
+
+impl Scan {
+    ghost use Rattle.tt_log.specs.Scans.{IsGoing, IsScanning, ahead, left, from_here, given, with_given, most_left};
+    ghost use Rattle.tt_log.specs.Logs.{entries_in, walk_end};
+
+    // A scan that hasn't read anything.
+    pub(crate) fn new(alloc: Global, from: Position) -> Scan
+        ensures from { result.from ≡ from }
+        ensures file { result.file ≡ from.file }
+        ensures begun { result.begun ≡ false }
+        ensures gate { result.gate ≡ 16 }
+        ensures offset { result.offset ≡ 0 }
+        ensures body { result.body.items ≡ [] }
+        ensures at { result.at ≡ 0 }
+    {
+        Scan {
+            from,
+            file: from.file,
+            begun: false,
+            gate: 16,
+            offset: 0,
+            body: Vec::new(alloc),
+            at: 0,
+        }
+    }
+
+    // Reads the header of the file, if it wasn't read.
+    fn enter<V: Volume>(&mut self, volume: &mut V) -> Result<(), LogRefusal>
+        requires going { V.told → IsGoing self.old (V.now volume.old) }
+        ensures going { V.told → IsGoing self.new (V.now volume.new) }
+        ensures same { V.told → ahead self.new (V.now volume.new) ≡ ahead self.old (V.now volume.old) }
+        ensures begun { OnOk result (self.new.begun ≡ true) }
+        ensures still { (self.new.from ≡ self.old.from) × (self.new.file ≡ self.old.file) × (self.new.gate ≡ self.old.gate)
+            × (self.new.offset ≡ self.old.offset) × (self.new.body ≡ self.old.body) × (self.new.at ≡ self.old.at) }
+        ensures refused { V.told → IfErr result (λ e. e ≡ Failed) }
+        ensures keeps { V.told → Keeps (V.now volume.old) (V.now volume.new) (V.may volume.old) (V.may volume.new) }
+        ensures cause { RoseWhere (IsErrOf result Failed) (V.faults volume.old) (V.faults volume.new) }
+    {
+        if self.begun {
+            return Ok(());
+        }
+        match check_header(volume, self.file) {
+            Ok(()) => {
+                self.begun = true;
+                Ok(())
+            }
+            Err(refusal) => Err(refusal),
+        }
+    }
+
+    // Goes on in the next file.
+    fn turn(&mut self)
+        requires file { self.old.file < 999999 }
+        ensures file { self.new.file ≡ self.old.file + 1 }
+        ensures begun { self.new.begun ≡ false }
+        ensures gate { self.new.gate ≡ 16 }
+        ensures offset { self.new.offset ≡ 0 }
+        ensures at { self.new.at ≡ length self.new.body.items }
+        ensures body { self.new.body ≡ self.old.body }
+        ensures from { self.new.from ≡ self.old.from }
+    {
+        self.file += 1;
+        self.begun = false;
+        self.gate = 16;
+        self.offset = 0;
+        self.at = self.body.len();
+    }
+
+    // Goes on in the body of the batch behind the gate.
+    fn fill(&mut self, body: Vec<u8>)
+        requires none { self.old.at ≡ length self.old.body.items }
+        requires inside { self.old.gate + 9 + length body.items < 2 ^ 62 }
+        requires room { self.old.offset + length body.items ≤ file_most }
+        ensures file { self.new.file ≡ self.old.file }
+        ensures begun { self.new.begun ≡ self.old.begun }
+        ensures gate { self.new.gate ≡ self.old.gate + 9 + length body.items }
+        ensures offset { self.new.offset ≡ self.old.offset }
+        ensures body { self.new.body.items ≡ body.items }
+        ensures at { self.new.at ≡ 0 }
+        ensures from { self.new.from ≡ self.old.from }
+    {
+        self.gate += 9 + body.len() as u64;
+        self.body = body;
+        self.at = 0;
+    }
+
+    // Reads what stands behind the gate, where all entries before it were given.
+    fn load<V: Volume>(&mut self, volume: &mut V) -> Result<Loaded, LogRefusal>
+        requires file { self.old.file < 1000000 }
+        requires begun { self.old.begun ≡ true }
+        requires none { self.old.at ≡ length self.old.body.items }
+        requires going { V.told → IsGoing self.old (V.now volume.old) }
+        ensures going { V.told → IsGoing self.new (V.now volume.new) }
+        ensures same { V.told → ahead self.new (V.now volume.new) ≡ ahead self.old (V.now volume.old) }
+        ensures body { IfOk result (λ loaded. loaded ≡ Loaded.Body → self.new.at < length self.new.body.items) }
+        ensures turned { IfOk result (λ loaded. loaded ≡ Loaded.Turned → (self.new.at ≡ length self.new.body.items)
+            × (self.old.file < self.new.file)) }
+        ensures nothing { V.told → IfOk result (λ loaded. loaded ≡ Loaded.Nothing
+            → entries_in (ahead self.old (V.now volume.old)) ≡ []) }
+        ensures fewer { IfOk result (λ loaded. (loaded ≡ Loaded.Nothing → ⊥) → most_left self.new < most_left self.old) }
+        ensures from { self.new.from ≡ self.old.from }
+        ensures file { self.new.file < 1000000 }
+        ensures still { IfErr result (λ e. self.new ≡ self.old) }
+        ensures refused { V.told → IfErr result (λ e. (e ≡ Failed) ⊎ (e ≡ NoMemory)) }
+        ensures keeps { V.told → Keeps (V.now volume.old) (V.now volume.new) (V.may volume.old) (V.may volume.new) }
+        ensures cause { RoseWhere (IsErrOf result Failed) (V.faults volume.old) (V.faults volume.new) }
+    {
+        let alloc = *self.body.allocator();
+        match read_batch(alloc, volume, self.file, self.gate, self.offset) {
+            Ok(Batch::Closed) => Ok(Loaded::Nothing),
+            Ok(Batch::Turned) => {
+                self.turn();
+                Ok(Loaded::Turned)
+            }
+            Ok(Batch::Entries { body }) => {
+                self.fill(body);
+                Ok(Loaded::Body)
+            }
+            Err(refusal) => Err(refusal),
+        }
+    }
+
+    // The same of a file whose header may not have been read yet.
+    fn enter_and_load<V: Volume>(&mut self, volume: &mut V) -> Result<Loaded, LogRefusal>
+        requires file { self.old.file < 1000000 }
+        requires none { self.old.at ≡ length self.old.body.items }
+        requires going { V.told → IsGoing self.old (V.now volume.old) }
+        ensures going { V.told → IsGoing self.new (V.now volume.new) }
+        ensures same { V.told → ahead self.new (V.now volume.new) ≡ ahead self.old (V.now volume.old) }
+        ensures body { IfOk result (λ loaded. loaded ≡ Loaded.Body → self.new.at < length self.new.body.items) }
+        ensures turned { IfOk result (λ loaded. loaded ≡ Loaded.Turned → (self.new.at ≡ length self.new.body.items)
+            × (self.old.file < self.new.file)) }
+        ensures nothing { V.told → IfOk result (λ loaded. loaded ≡ Loaded.Nothing
+            → entries_in (ahead self.old (V.now volume.old)) ≡ []) }
+        ensures fewer { IfOk result (λ loaded. (loaded ≡ Loaded.Nothing → ⊥) → most_left self.new < most_left self.old) }
+        ensures from { self.new.from ≡ self.old.from }
+        ensures file { self.new.file < 1000000 }
+        ensures refused { V.told → IfErr result (λ e. (e ≡ Failed) ⊎ (e ≡ NoMemory)) }
+        ensures keeps { V.told → Keeps (V.now volume.old) (V.now volume.new) (V.may volume.old) (V.may volume.new) }
+        ensures cause { RoseWhere (IsErrOf result Failed) (V.faults volume.old) (V.faults volume.new) }
+    {
+        match self.enter(volume) {
+            Ok(()) => self.load(volume),
+            Err(refusal) => Err(refusal),
+        }
+    }
+
+    // Reads on until there are entries, or until the log ends.
+    fn refill<V: Volume>(&mut self, volume: &mut V) -> Result<bool, LogRefusal>
+        requires file { self.old.file < 1000000 }
+        requires none { self.old.at ≡ length self.old.body.items }
+        requires going { V.told → IsGoing self.old (V.now volume.old) }
+        ensures going { V.told → IsGoing self.new (V.now volume.new) }
+        ensures same { V.told → ahead self.new (V.now volume.new) ≡ ahead self.old (V.now volume.old) }
+        ensures some { IfOk result (λ more. more ≡ true → self.new.at < length self.new.body.items) }
+        ensures nothing { V.told → IfOk result (λ more. more ≡ false → entries_in (ahead self.old (V.now volume.old)) ≡ []) }
+        ensures fewer { IfOk result (λ more. more ≡ true → most_left self.new < most_left self.old) }
+        ensures from { self.new.from ≡ self.old.from }
+        ensures file { self.new.file < 1000000 }
+        ensures refused { V.told → IfErr result (λ e. (e ≡ Failed) ⊎ (e ≡ NoMemory)) }
+        ensures keeps { V.told → Keeps (V.now volume.old) (V.now volume.new) (V.may volume.old) (V.may volume.new) }
+        ensures cause { RoseWhere (IsErrOf result Failed) (V.faults volume.old) (V.faults volume.new) }
+    {
+        'files: loop {
+            match self.enter_and_load(volume) {
+                Ok(Loaded::Body) => return Ok(true),
+                Ok(Loaded::Nothing) => return Ok(false),
+                Ok(Loaded::Turned) => {}
+                Err(refusal) => return Err(refusal),
+            }
+        }
+    }
+
+    // Sees to it that an entry is at hand; `false` where the log ends.
+    fn more<V: Volume>(&mut self, volume: &mut V) -> Result<bool, LogRefusal>
+        requires file { self.old.file < 1000000 }
+        requires going { V.told → IsGoing self.old (V.now volume.old) }
+        ensures going { V.told → IsGoing self.new (V.now volume.new) }
+        ensures same { V.told → ahead self.new (V.now volume.new) ≡ ahead self.old (V.now volume.old) }
+        ensures some { IfOk result (λ more. more ≡ true → self.new.at < length self.new.body.items) }
+        ensures nothing { V.told → IfOk result (λ more. more ≡ false → entries_in (ahead self.old (V.now volume.old)) ≡ []) }
+        ensures fewer { IfOk result (λ more. more ≡ true → most_left self.new ≤ most_left self.old) }
+        ensures from { self.new.from ≡ self.old.from }
+        ensures file { self.new.file < 1000000 }
+        ensures refused { V.told → IfErr result (λ e. (e ≡ Failed) ⊎ (e ≡ NoMemory)) }
+        ensures keeps { V.told → Keeps (V.now volume.old) (V.now volume.new) (V.may volume.old) (V.may volume.new) }
+        ensures cause { RoseWhere (IsErrOf result Failed) (V.faults volume.old) (V.faults volume.new) }
+    {
+        if self.at < self.body.len() {
+            return Ok(true);
+        }
+        self.refill(volume)
+    }
+
+    // Passes over an entry of so many bytes.
+    fn pass(&mut self, n: usize)
+        requires { self.old.at + n ≤ length self.old.body.items }
+        ensures at { self.new.at ≡ self.old.at + n }
+        ensures offset { self.new.offset ≡ self.old.offset + n }
+        ensures still { (self.new.from ≡ self.old.from) × (self.new.file ≡ self.old.file) × (self.new.begun ≡ self.old.begun)
+            × (self.new.gate ≡ self.old.gate) × (self.new.body ≡ self.old.body) }
+    {
+        self.at += n;
+        self.offset += n as u32;
+    }
+
+    // Takes the entry that is at hand.
+    fn take(&mut self) -> Result<(Position, Entry), LogRefusal>
+        requires some { self.old.at < length self.old.body.items }
+        ensures going { (files : Files) → IsGoing self.old files → IsGoing self.new files }
+        ensures given { (files : Files) → IsGoing self.old files
+            → IfOk result (λ p. ahead self.old files ≡ in_front (p ∷ []) (ahead self.new files)) }
+        ensures still { IfErr result (λ e. self.new ≡ self.old) }
+        ensures refused { (files : Files) → IsGoing self.old files → IfErr result (λ e. e ≡ NoMemory) }
+        ensures unfailed { IsErrOf result Failed → ⊥ }
+        ensures entry { IfOk result (λ p. IsEntry p.1) }
+        ensures fewer { OnOk result (most_left self.new < most_left self.old) }
+        ensures from { self.new.from ≡ self.old.from }
+        ensures file { self.new.file ≡ self.old.file }
+    {
+        let alloc = *self.body.allocator();
+        match entry_behind(alloc, &self.body, self.at) {
+            Ok(Some((entry, n))) => {
+                let at = Position {
+                    file: self.file,
+                    offset: self.offset,
+                };
+                self.pass(n);
+                Ok((at, entry))
+            }
+            Ok(None) => Err(LogRefusal::BadBatch {
+                file: self.file,
+                at: self.gate,
+            }),
+            Err(_) => Err(LogRefusal::NoMemory),
+        }
+    }
+
+    // Takes the entry that is at hand; `None` where it stands before the scan's first position.
+    fn take_from(&mut self) -> Result<Option<(Position, Entry)>, LogRefusal>
+        requires some { self.old.at < length self.old.body.items }
+        ensures going { (files : Files) → IsGoing self.old files → IsGoing self.new files }
+        ensures end { (files : Files) → IsGoing self.old files
+            → (walk_end (ahead self.new files)).file ≡ (walk_end (ahead self.old files)).file }
+        ensures given { (files : Files) → IsGoing self.old files
+            → IfOk result (λ o. from_here self.old files ≡ with_given o (from_here self.new files)) }
+        ensures still { IfErr result (λ e. self.new ≡ self.old) }
+        ensures refused { (files : Files) → IsGoing self.old files → IfErr result (λ e. e ≡ NoMemory) }
+        ensures unfailed { IsErrOf result Failed → ⊥ }
+        ensures entry { IfOk result (λ o. IfSome o (λ p. IsEntry p.1)) }
+        ensures fewer { OnOk result (most_left self.new < most_left self.old) }
+        ensures from { self.new.from ≡ self.old.from }
+        ensures file { self.new.file ≡ self.old.file }
+    {
+        match self.take() {
+            Ok((at, entry)) => {
+                if is_before(at, self.from) {
+                    return Ok(None);
+                }
+                Ok(Some((at, entry)))
+            }
+            Err(refusal) => Err(refusal),
+        }
+    }
+
+    /// The next forced entry at or behind the scan's first position, with its position; `None` where none is left,
+    /// which is at the end of what is forced. No file changes. After a refusal the scan stands where it stood.
+    /// Over every volume, what it gives is in an entry's ranges, and leaves less to read: so a pass ends.
+    ///
+    /// The volume and the log must be those that the scan was made for, and no entry may have been forced since.
+    pub fn next<V: Volume>(
+        &mut self,
+        log: &Log,
+        volume: &mut V,
+    ) -> Result<Option<(Position, Entry)>, LogRefusal>
+        requires scanning { V.told → IsScanning self.old log.now (V.now volume.old) }
+        ensures scanning { V.told → IsScanning self.new log.now (V.now volume.new) }
+        ensures next { V.told → IfOk result (λ o. left self.old log.now (V.now volume.old)
+            ≡ given o (left self.new log.now (V.now volume.new))) }
+        ensures still { V.told → IfErr result (λ e. left self.new log.now (V.now volume.new)
+            ≡ left self.old log.now (V.now volume.old)) }
+        ensures entry { IfOk result (λ o. IfSome o (λ p. IsEntry p.1)) }
+        ensures fewer { IfOk result (λ o. IfSome o (λ p. most_left self.new < most_left self.old)) }
+        ensures refused { V.told → IfErr result (λ e. (e ≡ Failed) ⊎ (e ≡ NoMemory)) }
+        ensures from { self.new.from ≡ self.old.from }
+        ensures keeps { V.told → Keeps (V.now volume.old) (V.now volume.new) (V.may volume.old) (V.may volume.new) }
+        ensures cause { RoseWhere (IsErrOf result Failed) (V.faults volume.old) (V.faults volume.new) }
+    {
+        if self.file > log.current() {
+            return Ok(None);
+        }
+        self.find(volume)
+    }
+
+    // The same, where the scan isn't past the log's current file.
+    fn find<V: Volume>(&mut self, volume: &mut V) -> Result<Option<(Position, Entry)>, LogRefusal>
+        requires file { self.old.file < 1000000 }
+        requires going { V.told → IsGoing self.old (V.now volume.old) }
+        ensures going { V.told → IsGoing self.new (V.now volume.new) }
+        ensures end { V.told → (walk_end (ahead self.new (V.now volume.new))).file
+            ≡ (walk_end (ahead self.old (V.now volume.old))).file }
+        ensures next { V.told → IfOk result (λ o. from_here self.old (V.now volume.old)
+            ≡ given o (from_here self.new (V.now volume.new))) }
+        ensures still { V.told → IfErr result (λ e. from_here self.new (V.now volume.new)
+            ≡ from_here self.old (V.now volume.old)) }
+        ensures entry { IfOk result (λ o. IfSome o (λ p. IsEntry p.1)) }
+        ensures fewer { IfOk result (λ o. IfSome o (λ p. most_left self.new < most_left self.old)) }
+        ensures refused { V.told → IfErr result (λ e. (e ≡ Failed) ⊎ (e ≡ NoMemory)) }
+        ensures from { self.new.from ≡ self.old.from }
+        ensures keeps { V.told → Keeps (V.now volume.old) (V.now volume.new) (V.may volume.old) (V.may volume.new) }
+        ensures cause { RoseWhere (IsErrOf result Failed) (V.faults volume.old) (V.faults volume.new) }
+    {
+        'entries: loop {
+            match self.more(volume) {
+                Ok(true) => {}
+                Ok(false) => return Ok(None),
+                Err(refusal) => return Err(refusal),
+            }
+            match self.take_from() {
+                Ok(None) => {}
+                Ok(found) => return Ok(found),
+                Err(refusal) => return Err(refusal),
+            }
+        }
+    }
+}

@@ -1,0 +1,117 @@
+// The walk from one log file to the next.
+ghost use Rattle.std.specs.Prelude.{◌≡◌, ◌⊎◌, ◌<◌, ◌≤◌, IfOk, OnOk, IfErr, IsErrOf};
+ghost use Rattle.tt_disk.specs.declared.volume.Name.TheVariants.{Log as LogFile};
+ghost use Rattle.tt_disk.specs.Causes.{RoseWhere};
+ghost use Rattle.tt_disk.specs.Volume.{Keeps};
+ghost use Rattle.tt_gate.specs.Standing.{IsReady};
+ghost use Rattle.tt_log.specs.Walk.{file_read, file_most, log_of};
+ghost use Rattle.tt_log.specs.Starts.{started};
+ghost use Rattle.tt_log.specs.Ends.{IsEnd, HasEnd, IsInRange, IsFollowed, EndsIn};
+ghost use Rattle.tt_log.specs.declared.refusal.LogRefusal.TheVariants.{Failed};
+
+use crate::batch::refusal_of;
+use crate::file::{FileEnd, read_file};
+use crate::header::header;
+use crate::refusal::LogRefusal;
+use std::alloc::Global;
+use tt_disk::{Name, Volume};
+use tt_gate::GateFile;
+use tt_record::LOG_FILES_END;
+use tt_value::Position;
+
+// Goes on from a file whose end is known to the last one, and answers where its entries end.
+fn follow<V: Volume>(
+    alloc: Global,
+    volume: &mut V,
+    number: u32,
+    end: FileEnd,
+) -> Result<Position, LogRefusal>
+    requires number { number < 1000000 }
+    requires range { IsInRange number end }
+    requires end { V.told → IsEnd (file_read number (V.now volume.old (LogFile number))) end }
+    ensures exact { V.told → IsFollowed (log_of number (V.now volume.old)) result }
+    ensures within { IfOk result (λ at. (number ≤ at.file) × (at.file < 1000000) × (at.offset ≤ file_most)) }
+    ensures keeps { V.told → Keeps (V.now volume.old) (V.now volume.new) (V.may volume.old) (V.may volume.new) }
+    ensures cause { RoseWhere (IsErrOf result Failed) (V.faults volume.old) (V.faults volume.new) }
+{
+    let mut file = number;
+    let mut end = end;
+    'files: while end.turned {
+        let next = match read_file(alloc, volume, file + 1, 0) {
+            Ok(next) => next,
+            Err(refusal) => return Err(refusal),
+        };
+        file += 1;
+        end = next;
+    }
+    Ok(Position {
+        file,
+        offset: end.total,
+    })
+}
+
+// The same from the file of a position on, which is known too.
+fn follow_from<V: Volume>(
+    alloc: Global,
+    volume: &mut V,
+    from: Position,
+    first: FileEnd,
+) -> Result<Position, LogRefusal>
+    requires number { from.file < 1000000 }
+    requires range { IsInRange from.file first }
+    requires end { V.told → HasEnd from.offset (file_read from.file (V.now volume.old (LogFile from.file))) first }
+    ensures exact { V.told → IsFollowed (started from (V.now volume.old)) result }
+    ensures same { V.told → OnOk result (started from (V.now volume.old) ≡ log_of from.file (V.now volume.old)) }
+    ensures within { IfOk result (λ at. (from.file ≤ at.file) × (at.file < 1000000) × (at.offset ≤ file_most)) }
+    ensures keeps { V.told → Keeps (V.now volume.old) (V.now volume.new) (V.may volume.old) (V.may volume.new) }
+    ensures cause { RoseWhere (IsErrOf result Failed) (V.faults volume.old) (V.faults volume.new) }
+{
+    match follow(alloc, volume, from.file, first) {
+        Ok(at) => {
+            if !first.is_place {
+                return Err(LogRefusal::BadBatch {
+                    file: from.file,
+                    at: 0,
+                });
+            }
+            Ok(at)
+        }
+        Err(refusal) => Err(refusal),
+    }
+}
+
+// Walks through the files from that of a position on, and answers where their entries end.
+pub(crate) fn find_entries<V: Volume>(
+    alloc: Global,
+    volume: &mut V,
+    from: Position,
+) -> Result<Position, LogRefusal>
+    ensures exact { V.told → IsFollowed (started from (V.now volume.old)) result }
+    ensures same { V.told → OnOk result (started from (V.now volume.old) ≡ log_of from.file (V.now volume.old)) }
+    ensures within { IfOk result (λ at. (from.file ≤ at.file) × (at.file < 1000000) × (at.offset ≤ file_most)) }
+    ensures keeps { V.told → Keeps (V.now volume.old) (V.now volume.new) (V.may volume.old) (V.may volume.new) }
+    ensures cause { RoseWhere (IsErrOf result Failed) (V.faults volume.old) (V.faults volume.new) }
+{
+    if from.file >= LOG_FILES_END {
+        return Err(LogRefusal::Gap { file: from.file });
+    }
+    match read_file(alloc, volume, from.file, from.offset) {
+        Ok(first) => follow_from(alloc, volume, from, first),
+        Err(refusal) => Err(refusal),
+    }
+}
+
+// The end of the last file, to which entries are added.
+pub(crate) fn open_last<V: Volume>(volume: &mut V, number: u32) -> Result<GateFile, LogRefusal>
+    requires end { V.told → EndsIn (file_read number (V.now volume.old (LogFile number))) }
+    ensures ready { V.told → IfOk result (λ file. IsReady file (V.now volume.new) (V.may volume.new)) }
+    ensures fresh { IfOk result (λ file. (file.name ≡ LogFile number) × (file.staged ≡ 0)) }
+    ensures refused { V.told → IfErr result (λ e. e ≡ Failed) }
+    ensures keeps { V.told → Keeps (V.now volume.old) (V.now volume.new) (V.may volume.old) (V.may volume.new) }
+    ensures cause { RoseWhere (IsErrOf result Failed) (V.faults volume.old) (V.faults volume.new) }
+{
+    match GateFile::find_end(volume, Name::Log(number), &header(number)) {
+        Ok(file) => Ok(file),
+        Err(refusal) => Err(refusal_of(number, refusal)),
+    }
+}
