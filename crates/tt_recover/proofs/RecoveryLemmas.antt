@@ -1,0 +1,102 @@
+-- What a pass over a log has read, and what it recovers.
+use Rattle.std.proofs.Common.{◌≡◌, ◌==◌, ◌||◌, ◌&&◌, ◌+◌, ℕ, zero, suc, Bool, true, false, nat_le, nat_lt, filter, List, [], ◌∷◌, Result, Ok, Err, if◌then◌else◌, refl, sym, ap, ◌∙◌, subst, arith}
+use Rattle.std.specs.Prelude.{IsOk}
+use Rattle.tt_disk.specs.declared.volume.Name.TheVariants.{Log as LogFile}
+use Rattle.tt_value.specs.declared.position.Position.{Position}
+use Rattle.tt_record.specs.declared.entry.Entry.{Entry}
+use Rattle.tt_record.specs.Places.{position}
+use Rattle.tt_log.specs.declared.log.Log.{Log}
+use Rattle.tt_log.specs.declared.scan.Scan.{Scan}
+use Rattle.tt_log.specs.declared.refusal.LogRefusal.{LogRefusal}
+use Rattle.tt_log.specs.Walk.{Files, Found as Read, Part, file_read, is_from, on_part, walk, log_of}
+use Rattle.tt_log.specs.Starts.{is_place, has_place, where_place, started}
+use Rattle.tt_log.specs.Logs.{entries_in, forced_of, walk_end, unforced, write_of}
+use Rattle.tt_log.specs.Scans.{left}
+use Rattle.tt_model.specs.Trail.{Trail}
+use Rattle.tt_model.specs.Committed.{no_cells}
+use Rattle.tt_model.specs.Live.{next_number}
+use Rattle.tt_model.specs.Standing.{standing}
+use Rattle.tt_recover.specs.declared.progress.Progress.{Progress}
+use Rattle.tt_recover.specs.declared.recovery.Recovered.{Recovered}
+use Rattle.tt_recover.specs.Opening.{laid_on, newest_first, found_by, found_in, opening}
+use Rattle.tt_recover.specs.Recoveries.{HasRead, IsReading, IsRecovered}
+use Rattle.tt_recover.specs.Replays.{cell_shown}
+
+-- ---- the log from its beginning on
+
+first_place : (es : List Entry) → is_place 0 es ≡ true
+first_place [] = refl
+first_place (e ∷ es) = refl
+
+where_true : (p : Position) (b : Bool) (r : Result Read LogRefusal) → b ≡ true → where_place p b r ≡ r
+where_true p b (Ok read) is = ap (λ (c : Bool). where_place p c (Ok read)) is
+where_true p b (Err e) is = refl
+
+begun_on : (p : Position) (n : ℕ) (part : Part) (more : Result Read LogRefusal) → where_place p (has_place 0 part) (on_part n part more) ≡ on_part n part more
+begun_on p n (Ok part) more = where_true p (is_place 0 part.0) (on_part n (Ok part) more) (first_place part.0)
+begun_on p n (Err e) more = refl
+
+begun_walk : (p : Position) (most n : ℕ) (files : Files) → where_place p (has_place 0 (file_read n (files (LogFile n)))) (walk most n files) ≡ walk most n files
+begun_walk p zero n files = refl
+begun_walk p (suc most) n files = begun_on p n (file_read n (files (LogFile n))) (walk most (n + 1) files)
+
+-- the start of a log is always a place
+pub begun_log : (files : Files) → started (position 0 0) files ≡ log_of 0 files
+unfolding log_of
+begun_log files = begun_walk (position 0 0) 1000000 0 files
+
+from_start : (p : Position × Entry) → is_from (position 0 0) p ≡ true
+from_start p = by p.0.file
+  where
+    by : (k : ℕ) → (nat_lt 0 k || ((k == 0) && nat_le 0 p.0.offset)) ≡ true
+    by zero = grind arith
+    by (suc k) = grind arith
+
+kept_true : (b : Bool) (p : Position × Entry) (ps qs : List (Position × Entry)) → b ≡ true → ps ≡ qs → (if b then p ∷ ps else ps) ≡ p ∷ qs
+kept_true true p ps qs is same = ap (λ (l : List (Position × Entry)). p ∷ l) same
+kept_true false p ps qs is same = cc
+
+pub all_from : (ps : List (Position × Entry)) → filter (is_from (position 0 0)) ps ≡ ps
+all_from [] = refl
+all_from (p ∷ ps) = kept_true (is_from (position 0 0) p) p (filter (is_from (position 0 0)) ps) ps (from_start p) (all_from ps)
+
+-- ---- one more entry is read
+
+pub reads_one : (progress progress' : Progress) (scan scan' : Scan) (log : Log) (now now' : Files) (all : Trail) (p : Position × Entry)
+    → IsReading progress scan log now all → left scan log now ≡ p ∷ left scan' log now'
+    → ((trail : Trail) → HasRead progress trail → HasRead progress' (record { at = p.0; entry = p.1 } ∷ trail)) → IsReading progress' scan' log now' all
+reads_one progress progress' scan scan' log now now' all p r same takes = record {
+  older = record { at = p.0; entry = p.1 } ∷ r.older;
+  read = takes r.older r.read;
+  rest = ap (laid_on r.older) (sym same) ∙ r.rest;
+}
+
+-- all are read
+pub reads_none : (progress : Progress) (scan : Scan) (log : Log) (now : Files) (all : Trail) → IsReading progress scan log now all → left scan log now ≡ [] → HasRead progress all
+reads_none progress scan log now all r none = subst (HasRead progress) (ap (laid_on r.older) (sym none) ∙ r.rest) r.read
+
+-- ---- what is recovered
+
+recovers_by : (x : Result Read LogRefusal) (r : Recovered) (old now : Files) → IsOk x → log_of 0 old ≡ x → log_of r.log.first now ≡ x
+    → ((q : ℕ) → cell_shown r.rows.items q ≡ standing no_cells (newest_first (forced_of r.log now)) q) → r.next_transaction ≡ next_number 1 (newest_first (forced_of r.log now))
+    → write_of r.log ≡ walk_end (log_of r.log.first now) → unforced r.log ≡ [] → IsRecovered r old now
+unfolding opening
+recovers_by (Ok read) r old now whole is same cells next end none = record {
+  found = found_by (newest_first read.entries) read.end;
+  is = ap found_in is;
+  cells = λ q. cells q ∙ ap (λ (s : Result Read LogRefusal). standing no_cells (newest_first (entries_in s)) q) same;
+  next = next ∙ ap (λ (s : Result Read LogRefusal). next_number 1 (newest_first (entries_in s))) same;
+  end = end ∙ ap walk_end same;
+  entries = ap (λ (s : Result Read LogRefusal). newest_first (entries_in s)) same;
+  none = none;
+}
+recovers_by (Err e) r old now whole is same cells next end none = absurd (let bad = whole in cc)
+
+pub recovers : (r : Recovered) (old now : Files) → IsOk (log_of r.log.first now) → log_of r.log.first now ≡ log_of 0 old
+    → ((q : ℕ) → cell_shown r.rows.items q ≡ standing no_cells (newest_first (forced_of r.log now)) q) → r.next_transaction ≡ next_number 1 (newest_first (forced_of r.log now))
+    → write_of r.log ≡ walk_end (log_of r.log.first now) → unforced r.log ≡ [] → IsRecovered r old now
+recovers r old now whole same cells next end none = recovers_by (log_of 0 old) r old now (subst (λ (x : Result Read LogRefusal). IsOk x) same whole) refl same cells next end none
+
+pub refused_opening : (files : Files) (e : LogRefusal) → started (position 0 0) files ≡ Err e → opening files ≡ Err e
+unfolding opening
+refused_opening files e is = ap found_in (sym (begun_log files) ∙ is)

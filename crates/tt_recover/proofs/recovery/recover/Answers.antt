@@ -1,0 +1,44 @@
+use Rattle.std.proofs.Common.{◌≡◌, ◌⊎◌, inl, inr, ◌∙◌, ◌+◌, Err, ap, sym, arith}
+use Rattle.tt_record.specs.Places.{position}
+use Rattle.tt_log.specs.declared.refusal.LogRefusal.{LogRefusal}
+use Rattle.tt_log.specs.declared.refusal.LogRefusal.TheVariants.{Failed, NoMemory}
+use Rattle.tt_log.specs.Laws.{open_kept}
+use Rattle.tt_log.specs.Logs.{forced_of}
+use Rattle.tt_log.specs.Starts.{started}
+use Rattle.tt_log.specs.Walk.{Files, log_of}
+use Rattle.tt_model.specs.Committed.{no_cells}
+use Rattle.tt_model.specs.Live.{next_number}
+use Rattle.tt_model.specs.Standing.{standing}
+use Rattle.tt_model.specs.Trail.{Trail}
+use Rattle.tt_recover.specs.declared.recovery.Recovered.{Recovered}
+use Rattle.tt_recover.specs.Opening.{newest_first, opening}
+use Rattle.tt_recover.proofs.RecoveryLemmas.{begun_log, recovers, refused_opening}
+use Rattle.tt_recover.proofs.recovery.recover.Goals as goal
+
+refused_by : (files : Files) (e : LogRefusal) → (e ≡ Failed) ⊎ ((e ≡ NoMemory) ⊎ (started (position 0 0) files ≡ Err e)) → (e ≡ Failed) ⊎ ((e ≡ NoMemory) ⊎ (opening files ≡ Err e))
+refused_by files e (inl failed) = inl failed
+refused_by files e (inr (inl none)) = inr (inl none)
+refused_by files e (inr (inr is)) = inr (inr (refused_opening files e is))
+
+pub returns-in-Err-clause-refused : goal.returns-in-Err-clause-refused
+returns-in-Err-clause-refused g c told = refused_by (g.V.Volume.now c.args.volume.now) c.in-Err.refusal (c.in-Err.ensures.refused told)
+
+pub returns-clause-found : goal.returns-clause-found
+returns-clause-found g c told =
+    let old = g.V.Volume.now c.args.volume.now in
+    let middle = g.V.Volume.now c.start.new.volume in
+    let now = g.V.Volume.now c.take_all.new.volume in
+    let log = c.in-Ok.log in
+    let keeps = c.take_all.ensures.keeps told in
+    let open_log = open_kept log middle now _ _ keeps (c.in-Ok.ensures.open told) in
+    let same : now ≡ middle = λ i n. keeps.reads n i in
+    let found : log_of log.first now ≡ log_of 0 old = ap (log_of log.first) same ∙ c.in-Ok.ensures.found told ∙ begun_log old in
+    let read = c.in-Ok-take_all.ensures.read told in
+    let all : newest_first (forced_of log middle) ≡ newest_first (forced_of log now) = ap (λ (files : Files). newest_first (forced_of log files)) (sym same) in
+    let r : Recovered = record { log = log; rows = c.in-Ok-finish.rows; next_transaction = c.next_transaction-next_transaction.result } in
+    let none : log.base + log.used ≡ log.base = omega (arith, c.in-Ok.ensures.waiting) in
+    recovers r old now open_log.whole found
+    (λ q. c.in-Ok-finish.ensures.found (newest_first (forced_of log middle)) read q ∙ ap (λ (t : Trail). standing no_cells t q) all)
+    (c.next_transaction-next_transaction.ensures.next ∙ read.next ∙ ap (next_number 1) all)
+    (ap (position log.number) none ∙ sym open_log.end)
+    c.in-Ok.ensures.empty

@@ -1,0 +1,38 @@
+-- What opening finds in the files of a log.
+use Rattle.std.specs.Prelude.{List, [], ◌∷◌, Result, Ok, Err}
+use Rattle.tt_value.specs.declared.position.Position.{Position}
+use Rattle.tt_record.specs.declared.entry.Entry.{Entry}
+use Rattle.tt_log.specs.declared.refusal.LogRefusal.{LogRefusal}
+use Rattle.tt_log.specs.Walk.{Files, Found as Read, log_of}
+use Rattle.tt_model.specs.Trail.{Trail}
+use Rattle.tt_model.specs.Committed.{no_cells}
+use Rattle.tt_model.specs.Live.{next_number}
+use Rattle.tt_model.specs.Standing.{standing}
+use Rattle.tt_model.specs.Found.{Found, only_first, first_head}
+
+-- entries behind a trail, one after another
+abbrev pub laid_on : Trail → List (Position × Entry) → Trail
+laid_on older [] = older
+laid_on older (p ∷ ps) = laid_on (record { at = p.0; entry = p.1 } ∷ older) ps
+
+-- entries in the order of their positions as a trail, which has the newest in front
+abbrev pub newest_first : List (Position × Entry) → Trail
+newest_first ps = laid_on [] ps
+
+-- What a log stands for behind an empty image that is read from the log's beginning on.
+abbrev pub found_by : Trail → Position → Found
+found_by entries end = record {
+  cells = standing no_cells entries;
+  entries = entries;
+  end = end;
+  next = next_number 1 entries;
+  heads = only_first (first_head 0 1);
+}
+
+abbrev pub found_in : Result Read LogRefusal → Result Found LogRefusal
+found_in (Ok read) = Ok (found_by (newest_first read.entries) read.end)
+found_in (Err e) = Err e
+
+-- what opening finds in these files, or the first damage of the log
+unfoldable pub opening : Files → Result Found LogRefusal
+opening files = found_in (log_of 0 files)

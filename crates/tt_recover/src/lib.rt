@@ -1,0 +1,11 @@
+//! What a log stands for when a database is opened.
+#![tactic(auto)]
+
+mod progress;
+mod recovery;
+mod replay;
+#[cfg(test)]
+mod tests;
+
+pub use recovery::{Recovered, recover};
+pub use replay::{FoundRow, Replay};
