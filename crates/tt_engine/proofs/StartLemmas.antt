@@ -1,0 +1,308 @@
+-- The engine with which a run begins.
+use Rattle.std.proofs.Common.{◌≡◌, inl, ◌-◌, ◌*◌, ◌||◌, ◌∙◌, ℕ, ℤ, suc, nat_eq, Bool, true, false, List, [], ◌∷◌, length, drop, Option, None, Result, Ok, Err, if◌then◌else◌, refl, sym, ap, subst, append-nil, arith}
+use Rattle.std.specs.List.{list_any}
+use Rattle.std.proofs.Math.Seq.{drop-nil}
+use Rattle.tt_value.specs.declared.position.Position.{Position}
+use Rattle.tt_record.specs.declared.entry.Entry.TheVariants.{Mark}
+use Rattle.tt_set.specs.declared.settings.Settings.{Settings}
+use Rattle.tt_log.specs.declared.log.Log.{Log}
+use Rattle.tt_log.specs.declared.refusal.LogRefusal.{LogRefusal}
+use Rattle.tt_log.specs.Walk.{Files, Found as Read, log_of, with_more}
+use Rattle.tt_disk.specs.Volume.{Keeps}
+use Rattle.tt_log.specs.Logs.{IsOpen, LeavesForced, LeavesThis, entries_in, forced_of, unforced, write_of}
+use Rattle.tt_model.specs.Trail.{Trail, Placed, oldest, trail_end}
+use Rattle.tt_model.specs.Committed.{Cells, committed, is_full, no_cells}
+use Rattle.tt_model.specs.Live.{in_use, live, next_number, numbers_below, pages_named}
+use Rattle.tt_model.specs.Found.{Found}
+use Rattle.tt_model.specs.Run.{begun, opened}
+use Rattle.tt_model.specs.Sets.{SetStanding}
+use Rattle.tt_model.specs.Standing.{standing}
+use Rattle.tt_model.specs.Tables.{rows_of}
+use Rattle.tt_model.specs.State.{State, bound, is_used, next, placed, view, with_entry}
+use Rattle.tt_recover.specs.declared.recovery.Recovered.{Recovered}
+use Rattle.tt_recover.specs.declared.replay.FoundRow.{FoundRow}
+use Rattle.tt_recover.specs.Opening.{found_by, found_in, newest_first, opening}
+use Rattle.tt_recover.specs.Recoveries.{IsRecovered}
+use Rattle.tt_recover.specs.Replays.{AreInOrder, cell_shown}
+use Rattle.tt_engine.specs.declared.engine.Engine.{Engine}
+use Rattle.tt_engine.specs.declared.rows.Rows.{Rows}
+use Rattle.tt_recover.specs.Numbers.{AreNumberedFrom}
+use Rattle.tt_model.specs.Steady.{IsGrown}
+use Rattle.tt_engine.specs.Engines.{FillsPlaces, HoldRows, IsAlone, Stands}
+use Rattle.tt_engine.specs.Founds.{HaveFound, has_found_key, has_place}
+use Rattle.tt_engine.specs.LogTrail.{HasTrail, LeavesPrefix}
+use Rattle.tt_engine.specs.Overs.{IsOver}
+use Rattle.tt_engine.specs.PrefixLaws.{number_again, prefix_opens, since_origin}
+use Rattle.tt_engine.specs.Prefixes.{IsBehindFound, LeavesOpening}
+use Rattle.tt_model.specs.Laws.{OpeningFindsCommitted}
+use Rattle.tt_engine.specs.Requests.{sees_key}
+use Rattle.tt_engine.specs.Starts.{are_there, begun_over}
+use Rattle.tt_engine.proofs.PlaceLemmas.{any_here, any_found, any_row, in_cell, same_test}
+use Rattle.tt_engine.proofs.CommitLemmas.{none_filled}
+use Rattle.tt_engine.proofs.FoundLemmas.{found_key, full_below, shown_full, shown_key}
+use Rattle.tt_engine.proofs.TrailLemmas.{Outcomes, left_forced, oldest_all, oldest_more}
+
+-- ---- what opening found
+
+ok_or : Found → Result Found LogRefusal → Found
+ok_or other (Ok found) = found
+ok_or other (Err e) = other
+
+same_ok : (a b : Found) → (r q : Result Found LogRefusal) → r ≡ Ok a → q ≡ Ok b → r ≡ q → a ≡ b
+unfolding ok_or
+same_ok a b r q is_a is_b same = sym (ap (ok_or a) is_a) ∙ ap (ok_or a) same ∙ ap (ok_or a) is_b
+
+found_part : (r : Result Read LogRefusal) (found : Found) → found_in r ≡ Ok found → found ≡ found_by found.entries found.end
+found_part (Ok read) found is =
+    let same : found_by (newest_first read.entries) read.end ≡ found = same_ok (found_by (newest_first read.entries) read.end) found (Ok (found_by (newest_first read.entries) read.end)) (Ok found) refl refl is in
+    sym same ∙ ap (λ (f : Found). found_by f.entries f.end) same
+found_part (Err e) found is = cc
+
+pub found_is : (files : Files) (found : Found) → opening files ≡ Ok found → found ≡ found_by found.entries found.end
+unfolding opening
+found_is files found is = found_part (log_of 0 files) found is
+
+-- the walk behind it
+pub record IsRead (r : Result Read LogRefusal) (found : Found) : Type 0 where
+  pub read : Read
+  pub is : r ≡ Ok read
+  pub entries : newest_first read.entries ≡ found.entries
+  pub end : read.end ≡ found.end
+
+read_part : (r : Result Read LogRefusal) (found : Found) → found_in r ≡ Ok found → IsRead r found
+read_part (Ok read) found is =
+    let same : found_by (newest_first read.entries) read.end ≡ found = same_ok (found_by (newest_first read.entries) read.end) found (Ok (found_by (newest_first read.entries) read.end)) (Ok found) refl refl is in
+    record { read = read; is = refl; entries = ap (λ (f : Found). f.entries) same; end = ap (λ (f : Found). f.end) same }
+read_part (Err e) found is = cc
+
+pub read_is : (files : Files) (found : Found) → opening files ≡ Ok found → IsRead (log_of 0 files) found
+unfolding opening
+read_is files found is = read_part (log_of 0 files) found is
+
+-- ---- the state before the Mark, and behind it
+
+abbrev no_sets : ℕ → Option SetStanding
+no_sets set = None
+
+abbrev before_mark : Settings → Files → Trail → Position → State
+before_mark settings files es end = opened settings (found_by es end) (are_there files) no_sets
+
+start_pages : (settings : Settings) (files : Files) (es : Trail) (end : Position) → (before_mark settings files es end).pages ≡ pages_named 0 es
+start_pages settings files es end = ap (pages_named 0) (since_origin es)
+
+more_none : (r : Result Read LogRefusal) → entries_in (with_more [] r) ≡ entries_in r
+more_none (Ok read) = append-nil read.entries
+more_none (Err e) = refl
+
+-- the log that was opened stands for the trail before the Mark
+pub opened_trail : (r : Recovered) (settings : Settings) (old now : Files) (es : Trail) (end : Position) → newest_first (forced_of r.log now) ≡ es → write_of r.log ≡ end → unforced r.log ≡ []
+    → r.log.first ≡ 0 → r.log.force ≡ write_of r.log → r.log.file_size ≡ settings.log_file_size → length r.log.buffer.items ≡ settings.log_buf_size → HasTrail r.log now (before_mark settings old es end)
+opened_trail r settings old now es end entries write none first force file_size buffer = record {
+  first = first;
+  entries = ap (λ w. newest_first (entries_in (with_more w (log_of r.log.first now)))) none ∙ ap newest_first (more_none (log_of r.log.first now)) ∙ entries;
+  forced = entries ∙ sym (oldest_all es);
+  bounds = (omega arith, omega arith);
+  write = write;
+  force = force ∙ write ∙ sym (none_new end);
+  sizes = (file_size, buffer);
+}
+  where
+    none_new : (end : Position) → trail_end end (oldest (length es - length es) []) ≡ end
+    none_new end = ap (λ l. trail_end end l) (drop-nil (length {A = Placed} [] - (length es - length es)))
+
+begun_used : (settings : Settings) (files : Files) (es : Trail) (end : Position) (q : ℕ) → is_used (begun settings (found_by es end) (are_there files) no_sets) q ≡ is_full (standing no_cells es q)
+unfolding begun with_entry in_use committed live
+begun_used settings files es end q = or_none (is_full (standing no_cells es q))
+  where
+    or_none : (b : Bool) → (b || false) ≡ b
+    or_none true = refl
+    or_none false = refl
+
+begun_pages : (settings : Settings) (files : Files) (es : Trail) (end : Position) → (begun settings (found_by es end) (are_there files) no_sets).pages ≡ pages_named 0 es
+unfolding begun with_entry
+begun_pages settings files es end = start_pages settings files es end
+
+begun_alone : (settings : Settings) (files : Files) (es : Trail) (end : Position) → IsAlone None (begun settings (found_by es end) (are_there files) no_sets)
+unfolding begun with_entry live
+begun_alone settings files es end = record { new_live = refl; all_live = refl; sessions = λ session. by None (nat_eq session 1) }
+  where
+    by : (o : Option ℕ) (c : Bool) → o ≡ (if c then o else o)
+    by o true = refl
+    by o false = refl
+
+begun_next : (settings : Settings) (files : Files) (es : Trail) (end : Position) → next (begun settings (found_by es end) (are_there files) no_sets) ≡ next_number 1 es
+unfolding begun with_entry next_number
+begun_next settings files es end = let again = number_again es in omega (arith, again)
+
+begun_grown : (settings : Settings) (files : Files) (es : Trail) (end : Position) →
+    IsGrown ((begun settings (found_by es end) (are_there files) no_sets).found.cells) ((begun settings (found_by es end) (are_there files) no_sets).entries)
+    × AreNumberedFrom ((begun settings (found_by es end) (are_there files) no_sets).found.next) ((begun settings (found_by es end) (are_there files) no_sets).entries)
+unfolding begun with_entry
+begun_grown settings files es end = ((tt, tt), (tt, tt))
+
+begun_view : (settings : Settings) (files : Files) (es : Trail) (end : Position) → view 1 (begun settings (found_by es end) (are_there files) no_sets) ≡ standing no_cells es
+unfolding begun with_entry committed
+begun_view settings files es end = refl
+
+begun_sees : (settings : Settings) (files : Files) (es : Trail) (end : Position) (k : ℤ) → sees_key k (begun settings (found_by es end) (are_there files) no_sets)
+    ≡ list_any (λ q. in_cell k (standing no_cells es q)) (numbers_below (32 * pages_named 0 es))
+unfolding rows_of
+begun_sees settings files es end k =
+    any_row k (view 1 (begun settings (found_by es end) (are_there files) no_sets)) (numbers_below (bound (begun settings (found_by es end) (are_there files) no_sets)))
+    ∙ ap (λ (cells : Cells). list_any (λ q. in_cell k (cells q)) (numbers_below (bound (begun settings (found_by es end) (are_there files) no_sets)))) (begun_view settings files es end)
+    ∙ ap (λ n. list_any (λ q. in_cell k (standing no_cells es q)) (numbers_below (32 * n))) (begun_pages settings files es end)
+
+-- the rows that were found are those of the state
+begun_rows : (settings : Settings) (files : Files) (es : Trail) (end : Position) (rows : Rows) (found : List FoundRow) → HaveFound rows found → AreInOrder found
+    → ((q : ℕ) → cell_shown found q ≡ standing no_cells es q) → HoldRows rows (begun settings (found_by es end) (are_there files) no_sets)
+begun_rows settings files es end rows found have order cells =
+    let s = begun settings (found_by es end) (are_there files) no_sets in
+    let used : (q : ℕ) → is_used s q ≡ has_place found q = λ q. begun_used settings files es end q ∙ ap is_full (sym (cells q)) ∙ shown_full found q in
+    record {
+      keys = λ k. have.keys k ∙ same_test (has_found_key found k) (list_any (λ q. in_cell k (standing no_cells es q)) (numbers_below (32 * pages_named 0 es))) (to k) (from k) ∙ sym (begun_sees settings files es end k);
+      below = λ q low. used q ∙ have.below q low;
+      free = λ inside. used rows.free ∙ have.free inside;
+      above = λ q high. have.places q ∙ sym (used q);
+    }
+  where
+    to : (k : ℤ) → has_found_key found k ≡ true → list_any (λ q. in_cell k (standing no_cells es q)) (numbers_below (32 * pages_named 0 es)) ≡ true
+    to k is =
+        let at = found_key k found order is in
+        let full : is_full (standing no_cells es at.place) ≡ true = ap is_full (sym (cells at.place)) ∙ shown_full found at.place ∙ at.there in
+        let low = full_below es at.place full in
+        any_here (λ q. in_cell k (standing no_cells es q)) (32 * pages_named 0 es) 0 at.place (omega arith) (omega (arith, low)) (ap (in_cell k) (sym (cells at.place)) ∙ at.is)
+
+    from : (k : ℤ) → list_any (λ q. in_cell k (standing no_cells es q)) (numbers_below (32 * pages_named 0 es)) ≡ true → has_found_key found k ≡ true
+    from k is =
+        let at = any_found (λ q. in_cell k (standing no_cells es q)) (32 * pages_named 0 es) 0 is in
+        shown_key k found at.place (ap (in_cell k) (cells at.place) ∙ at.is)
+
+begun_wish : (settings : Settings) (files : Files) (es : Trail) (end : Position) → (begun settings (found_by es end) (are_there files) no_sets).wish 1 ≡ false
+unfolding begun with_entry
+begun_wish settings files es end = refl
+
+begun_settings : (settings : Settings) (files : Files) (es : Trail) (end : Position) → (begun settings (found_by es end) (are_there files) no_sets).settings.durable_commits ≡ settings.durable_commits
+unfolding begun with_entry
+begun_settings settings files es end = refl
+
+begun_opened : (settings : Settings) (files : Files) (es : Trail) (end : Position) →
+    (begun settings (found_by es end) (are_there files) no_sets).found
+    ≡ found_by ((begun settings (found_by es end) (are_there files) no_sets).found.entries) ((begun settings (found_by es end) (are_there files) no_sets).found.end)
+unfolding begun with_entry
+begun_opened settings files es end = refl
+
+pub stands_begun : (e : Engine) (settings : Settings) (old now : Files) (es : Trail) (end : Position) (found : List FoundRow) → HasTrail e.log now (with_entry Mark (before_mark settings old es end))
+    → e.durable_commits ≡ settings.durable_commits → e.next ≡ next_number 1 es → e.own ≡ None → e.wish ≡ false → HaveFound e.rows found → AreInOrder found
+    → ((q : ℕ) → cell_shown found q ≡ standing no_cells es q) → Stands e now (begun_over settings old (found_by es end))
+unfolding begun
+stands_begun e settings old now es end found log durable number own wish have order cells =
+    let s = begun settings (found_by es end) (are_there old) no_sets in
+    let grown = begun_grown settings old es end in
+    record {
+      log = log;
+      grown = grown.0;
+      numbered = grown.1;
+      opened = begun_opened settings old es end;
+      below = λ q is. let low = full_below es q (sym (begun_used settings old es end q) ∙ is) in let pages = begun_pages settings old es end in omega (arith, low, pages);
+      alone = subst (λ o. IsAlone o s) (sym own) (begun_alone settings old es end);
+      filled = subst (λ o. FillsPlaces o s) (sym own) (none_filled s);
+      next = number ∙ sym (begun_next settings old es end);
+      wish = wish ∙ sym (begun_wish settings old es end);
+      durable = durable ∙ sym (begun_settings settings old es end);
+      rows = begun_rows settings old es end e.rows found have order cells;
+    }
+
+-- ---- what a crash leaves before and in the Mark
+
+pub begun_prefix : (settings : Settings) (old : Files) (found : Found) (may : Outcomes) → opening old ≡ Ok found → LeavesThis 0 (log_of 0 old) may → LeavesPrefix (length found.entries) (begun_over settings old found) may
+unfolding begun with_entry
+begun_prefix settings old found may is leaves files left =
+    let read = read_is old found is in
+    let x = placed Mark (opened settings found (are_there old) no_sets) in (
+      length found.entries,
+      omega arith,
+      record {
+        most = let more : length (x ∷ found.entries) ≡ suc (length found.entries) = refl in omega (arith, more);
+        found = read.read;
+        is = leaves files left ∙ read.is;
+        entries = read.entries ∙ sym (oldest_more (length found.entries) x found.entries (omega arith) ∙ oldest_all found.entries);
+        end = inl (read.end ∙ sym (none_new x found.end (length found.entries)));
+      },
+    )
+  where
+    none_new : (x : Placed) (end : Position) (n : ℕ) → trail_end end (oldest (n - n) (x ∷ [])) ≡ end
+    none_new x end n = let zero_more : length (x ∷ []) - (n - n) ≡ 1 = omega arith in ap (λ k. trail_end end (drop k (x ∷ []))) zero_more
+
+begun_behind : (settings : Settings) (old : Files) (found : Found) → found ≡ found_by found.entries found.end → IsBehindFound (begun_over settings old found)
+unfolding begun with_entry
+begun_behind settings old found is = record { found = is; grown = (tt, tt); numbered = (tt, tt) }
+
+begun_found : (settings : Settings) (old : Files) (found : Found) → (begun_over settings old found).found ≡ found
+unfolding begun with_entry
+begun_found settings old found = refl
+
+-- so opening finds what it found, perhaps with the Mark
+pub begun_opens : (law : OpeningFindsCommitted) (settings : Settings) (old : Files) (found : Found) (may : Outcomes) → opening old ≡ Ok found → LeavesPrefix (length found.entries) (begun_over settings old found) may
+    → LeavesOpening (length found.entries) (begun_over settings old found) may
+begun_opens law settings old found may is leaves =
+    prefix_opens law (length found.entries) (begun_over settings old found) may (begun_behind settings old found (found_is old found is))
+    (let same = ap (λ (f : Found). length f.entries) (begun_found settings old found) in omega (arith, same)) leaves
+
+-- in the Mark
+pub mark_prefix : (settings : Settings) (old : Files) (found : Found) (may : Outcomes) → LeavesPrefix (length found.entries) (with_entry Mark (opened settings found (are_there old) no_sets)) may → LeavesPrefix (length found.entries) (begun_over settings old found) may
+unfolding begun
+mark_prefix settings old found may leaves = leaves
+
+-- ---- over what was recovered
+
+same_found : (r : Result Found LogRefusal) (a b : Found) → r ≡ Ok a → r ≡ Ok b → a ≡ b
+same_found r a b is_a is_b = same_ok a b r r is_a is_b refl
+
+-- what recovering gave, and the engine over it
+pub record IsReady (settings : Settings) (old mid : Files) (r : Recovered) (e : Engine) : Type 0 where
+  pub recovered : IsRecovered r old mid
+  pub over : IsOver settings r e
+  pub first : r.log.first ≡ 0
+  pub force : r.log.force ≡ write_of r.log
+  pub sizes : (r.log.file_size ≡ settings.log_file_size) × (length r.log.buffer.items ≡ settings.log_buf_size)
+
+abbrev entries_of_log : Recovered → Files → Trail
+entries_of_log r now = newest_first (forced_of r.log now)
+
+made_of : (settings : Settings) (old mid : Files) (r : Recovered) (e : Engine) → IsReady settings old mid r e → (found : Found) → opening old ≡ Ok found → found_by (entries_of_log r mid) (write_of r.log) ≡ found
+made_of settings old mid r e ready found is =
+    let got = ready.recovered in
+    ap (λ es. found_by es (write_of r.log)) got.entries ∙ ap (λ at. found_by got.found.entries at) got.end ∙ sym (found_is old got.found got.is) ∙ same_found (opening old) got.found found got.is is
+
+pub mark_ready : (settings : Settings) (old mid : Files) (r : Recovered) (e : Engine) → IsReady settings old mid r e → (found : Found) → opening old ≡ Ok found → HasTrail e.log mid (opened settings found (are_there old) no_sets)
+mark_ready settings old mid r e ready found is =
+    subst (λ (l : Log). HasTrail l mid (opened settings found (are_there old) no_sets)) (sym ready.over.log)
+    (subst (λ (f : Found). HasTrail r.log mid (opened settings f (are_there old) no_sets)) (made_of settings old mid r e ready found is)
+    (opened_trail r settings old mid (entries_of_log r mid) (write_of r.log) refl refl ready.recovered.none ready.first ready.force ready.sizes.0 ready.sizes.1))
+
+pub mark_stands : (settings : Settings) (old mid now : Files) (r : Recovered) (e e' : Engine) → IsReady settings old mid r e → AreInOrder r.rows.items → (found : Found) → opening old ≡ Ok found
+    → HasTrail e'.log now (with_entry Mark (opened settings found (are_there old) no_sets)) → e'.durable_commits ≡ e.durable_commits → e'.next ≡ e.next → e'.own ≡ e.own → e'.wish ≡ e.wish → e'.rows ≡ e.rows
+    → Stands e' now (begun_over settings old found)
+mark_stands settings old mid now r e e' ready order found is log durable number own wish rows =
+    let got = ready.recovered in
+    let es = entries_of_log r mid in
+    let made = made_of settings old mid r e ready found is in
+    let got_is = same_found (opening old) got.found found got.is is in
+    let o = ready.over in
+    subst (λ (f : Found). Stands e' now (begun_over settings old f)) made
+    (stands_begun e' settings old now es (write_of r.log) r.rows.items
+    (subst (λ (f : Found). HasTrail e'.log now (with_entry Mark (opened settings f (are_there old) no_sets))) (sym made) log)
+    (durable ∙ o.durable) (number ∙ o.next ∙ got.next ∙ ap (λ (f : Found). f.next) got_is ∙ sym (ap (λ (f : Found). f.next) made)) (own ∙ o.own) (wish ∙ o.wish)
+    (subst (λ (w : Rows). HaveFound w r.rows.items) (sym rows) o.rows) order
+    (λ q. got.cells q ∙ ap (λ (f : Found). f.cells q) got_is ∙ sym (ap (λ (f : Found). f.cells q) made)))
+
+-- ---- what a crash leaves
+
+pub still_leaves : (old new : Files) (may may' : Outcomes) → Keeps old new may may' → (r : Result Read LogRefusal) → LeavesThis 0 r may → LeavesThis 0 r may'
+still_leaves old new may may' keeps r leaves files left = leaves files (λ name. keeps.crash name (files name) (left name))
+
+pub marked_prefix : (log : Log) (now : Files) (may may' : Outcomes) (settings : Settings) (old : Files) (found : Found) → IsOpen log now may → HasTrail log now (with_entry Mark (opened settings found (are_there old) no_sets))
+    → LeavesForced log now may' → LeavesPrefix (length found.entries) (begun_over settings old found) may'
+unfolding begun with_entry
+marked_prefix log now may may' settings old found o h leaves files left =
+    ((with_entry Mark (opened settings found (are_there old) no_sets)).forced, h.bounds.0, left_forced log now may may' (with_entry Mark (opened settings found (are_there old) no_sets)) o h leaves files left)

@@ -1,0 +1,9 @@
+use Rattle.std.proofs.Common.{refl}
+use Rattle.tt_engine.proofs.CommitLemmas.{stands_forced, state_opens}
+use Rattle.tt_engine.proofs.engine.Engine.end.Goals as goal
+
+pub returns-in-Ok-clause-stands : goal.returns-in-Ok-clause-stands
+returns-in-Ok-clause-stands g c told s h = stands_forced c.args.self.now _ _ _ s h refl refl refl refl refl (c.in-Ok.ensures.trail told s h.log)
+
+pub returns-in-Err-clause-crash : goal.returns-in-Err-clause-crash
+returns-in-Err-clause-crash g c told s h kept = state_opens c.args.self.now _ s (g.L.Volume.may c.force.new.volume) c.laws.ensures h (c.force.ensures.crash told s h.log kept)

@@ -1,0 +1,11 @@
+pub mod Engines
+pub mod Founds
+pub mod Keys
+pub mod Laws
+pub mod LogTrail
+pub mod Overs
+pub mod PrefixLaws
+pub mod Prefixes
+pub mod Refusals
+pub mod Requests
+pub mod Starts

@@ -1,0 +1,93 @@
+-- A prefix of the trail that the walk through the files finds is what opening finds.
+use Rattle.std.proofs.Common.{◌≡◌, ◌≤◌, ◌-◌, ◌∙◌, ℕ, Bool, true, false, List, [], ◌∷◌, ◌++◌, length, drop, map, Option, if◌then◌else◌, refl, sym, ap, subst, length-append, arith}
+use Rattle.std.proofs.lemmas.List.{drop-append-le}
+use Rattle.tt_disk.specs.declared.volume.Name.{Name}
+use Rattle.tt_value.specs.declared.position.Position.{Position}
+use Rattle.tt_value.specs.declared.reply.Hold.{Hold}
+use Rattle.tt_record.specs.Places.{position}
+use Rattle.tt_log.specs.Walk.{Files}
+use Rattle.tt_model.specs.Trail.{Trail, oldest, position_le, position_lt, since}
+use Rattle.tt_model.specs.Committed.{Cells, committed, no_cells}
+use Rattle.tt_model.specs.Live.{next_number}
+use Rattle.tt_model.specs.Found.{Found, scan_of}
+use Rattle.tt_model.specs.Holds.{holds_of, least_of}
+use Rattle.tt_model.specs.Prefix.{StandsForFirst, found_hold, from_file}
+use Rattle.tt_model.specs.Standing.{standing}
+use Rattle.tt_model.specs.State.{State, bound, trail}
+use Rattle.tt_model.specs.Steady.{IsGrown}
+use Rattle.tt_model.specs.Laws.{OpeningFindsCommitted}
+use Rattle.tt_recover.specs.Laws.{next_again, oldest_opens_again}
+use Rattle.tt_recover.specs.Numbers.{AreNumberedFrom}
+use Rattle.tt_recover.specs.Opening.{found_by, found_in, newest_first, opening}
+use Rattle.tt_engine.specs.LogTrail.{FindsFirst, LeavesPrefix}
+use Rattle.tt_engine.specs.Prefixes.{IsBehindFound, LeavesOpening}
+
+-- the first entries are all that were found, and the first new ones
+oldest_parts : (n : ℕ) (es found : Trail) → length found ≤ n → n ≤ length (es ++ found) → oldest n (es ++ found) ≡ oldest (n - length found) es ++ found
+oldest_parts n es found low high =
+    let long = length-append es found in
+    let same : length (es ++ found) - n ≡ length es - (n - length found) = omega (arith, long, low, high) in
+    ap (λ k. drop k (es ++ found)) same ∙ drop-append-le (length es - (n - length found)) es found (omega arith)
+
+-- the next number of entries from their own next number on
+number_kept : (k : ℕ) (es : Trail) → next_number 1 es ≤ k → next_number k es ≡ k
+unfolding next_number
+number_kept k [] low = refl
+number_kept k (e ∷ es) low = let rest = number_kept k es (omega (arith, low)) in omega (arith, rest, low)
+
+pub number_again : (es : Trail) → next_number (next_number 1 es) es ≡ next_number 1 es
+number_again es = number_kept (next_number 1 es) es (omega arith)
+
+-- ---- the least hold is the log's beginning
+
+from_origin : (p : Position) → position_le (position 0 0) p ≡ true
+from_origin p = grind arith
+
+pub since_origin : (es : Trail) → since (position 0 0) es ≡ es
+since_origin [] = refl
+since_origin (e ∷ es) = ap (λ b. if b then e ∷ since (position 0 0) es else []) (from_origin e.at) ∙ ap (λ l. e ∷ l) (since_origin es)
+
+origin_file : (q : Position) (b : Bool) → position_lt (position 0 0) q ≡ b → (if b then position 0 0 else q).file ≡ 0
+origin_file q true is = refl
+origin_file q false is = grind (arith, is)
+
+hold_file : (bound : ℕ) (es : Trail) (end : Position) → (found_hold bound (found_by es end)).file ≡ 0
+unfolding holds_of
+hold_file bound es end = origin_file (least_of end (map (λ (h : Hold). h.at) (drop 1 (holds_of (λ file. scan_of ((found_by es end).heads file)) bound (standing no_cells es) [])))) _ refl
+
+held_all : (bound : ℕ) (es : Trail) (end : Position) (t : Trail) → from_file (found_hold bound (found_by es end)) t ≡ t
+held_all bound es end t = ap (λ f. since (position f 0) t) (hold_file bound es end) ∙ since_origin t
+
+-- ---- the prefix
+
+stands_for : (law : OpeningFindsCommitted) (n : ℕ) (s : State) (files : Files) → IsBehindFound s → length s.found.entries ≤ n → (f : FindsFirst n s files) → StandsForFirst n s (found_by (newest_first f.found.entries) f.found.end)
+stands_for law n s files b low f =
+    let es = newest_first f.found.entries in
+    let old = s.found.entries in
+    let parts : es ≡ oldest (n - length old) s.entries ++ old = f.entries ∙ oldest_parts n s.entries old low f.most in
+    let base : s.found.cells ≡ standing no_cells old = ap (λ (g : Found). g.cells) b.found in
+    let number : s.found.next ≡ next_number 1 old = ap (λ (g : Found). g.next) b.found in
+    record {
+      least = low;
+      most = f.most;
+      cells = λ q.
+          ap (λ (t : Trail). standing no_cells t q) parts
+          ∙ oldest_opens_again law old s.entries (n - length old) q (subst (λ (c : Cells). IsGrown c s.entries) base b.grown) (subst (λ k. AreNumberedFrom k s.entries) number b.numbered)
+          ∙ ap (λ (c : Cells). committed c (oldest (n - length old) s.entries) q) (sym base);
+      entries = f.entries ∙ sym (held_all (bound s) es f.found.end (oldest n (trail s)));
+      end = f.end;
+      next =
+          ap (next_number 1) parts ∙ next_again 1 old (oldest (n - length old) s.entries)
+          ∙ ap (λ k. next_number k (oldest (n - length old) s.entries)) (sym (number_again old))
+          ∙ sym (next_again (next_number 1 old) old (oldest (n - length old) s.entries))
+          ∙ ap (λ k. next_number k (oldest (n - length old) s.entries ++ old)) (sym number)
+          ∙ ap (next_number s.found.next) (sym parts ∙ f.entries);
+    }
+
+-- Where the walk finds a prefix in every map that a crash may leave, opening does.
+pub prefix_opens : (law : OpeningFindsCommitted) (least : ℕ) (s : State) (may : Name → Option (List ℕ) → Type 0) → IsBehindFound s → length s.found.entries ≤ least → LeavesPrefix least s may → LeavesOpening least s may
+unfolding opening
+prefix_opens law least s may b low leaves files left =
+    let p = leaves files left in
+    let f = p.2 in
+    (found_by (newest_first f.found.entries) f.found.end, ap found_in f.is, (p.0, p.1, stands_for law p.0 s files b (let more = p.1 in omega (arith, low, more)) f))
