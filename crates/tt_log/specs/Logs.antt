@@ -1,5 +1,5 @@
 -- What a crash leaves of a log, and what a Log stands for.
-use Rattle.std.specs.Prelude.{◌≡◌, ◌⊎◌, ◌+◌, ◌&&◌, false, ℕ, List, [], take, length, nat_le, nat_lt, not, ◌||◌, Bool, true, if◌then◌else◌, Option, Some, None, Result, Ok, Err, IsOk}
+use Rattle.std.specs.Prelude.{◌≡◌, ◌⊎◌, ◌<◌, ◌≤◌, ◌+◌, ◌&&◌, false, ℕ, List, [], take, length, nat_le, nat_lt, not, ◌||◌, Bool, true, if◌then◌else◌, Option, Some, None, Result, Ok, Err, IsOk}
 use Rattle.tt_disk.specs.declared.volume.Name.{Name}
 use Rattle.tt_disk.specs.declared.volume.Name.TheVariants.{Ds, Log as LogFile, SetImage, SetLog}
 use Rattle.tt_gate.specs.Standing.{IsReady}
@@ -132,3 +132,9 @@ is_between from end (SetLog k) = false
 pub record OnlyBetween (from end : ℕ) (old new : Files) (may_old may_new : Name → Option (List ℕ) → Type 0) : Type 0 where
   pub reads : (n : Name) → is_between from end n ≡ false → new n ≡ old n
   pub crash : (n : Name) → is_between from end n ≡ false → (c : Option (List ℕ)) → may_new n c → may_old n c
+
+-- Of the log files of a range those below some number are gone, and those above it are as they were.
+pub record GoneInOrder (from end : ℕ) (old new : Files) : Type 0 where
+  pub at : ℕ
+  pub gone : (k : ℕ) → from ≤ k → k < at → k < end → new (LogFile k) ≡ None
+  pub above : (k : ℕ) → at < k → k < end → new (LogFile k) ≡ old (LogFile k)

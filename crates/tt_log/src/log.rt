@@ -85,7 +85,7 @@ impl Log {
     ghost use Rattle.tt_record.specs.Places.{place_of, end_of};
     ghost use Rattle.tt_log.specs.Logs.{trail_of, forced_of, moves, room_made, unforced, waiting_bytes, write_of};
     ghost use Rattle.tt_log.specs.Logs.{MayLeave, IsOpen, IsWhole, LeavesThis, LeavesEither, LeavesTurned};
-    ghost use Rattle.tt_log.specs.Logs.{LeavesForced, LeavesForcedOrAll, ForcedBeforeNextFile, OnlyTwo, OnlyBetween};
+    ghost use Rattle.tt_log.specs.Logs.{LeavesForced, LeavesForcedOrAll, ForcedBeforeNextFile, GoneInOrder, OnlyTwo, OnlyBetween};
 
     /// Removes every log file and makes an empty first one.
     pub fn make<V: Volume>(volume: &mut V) -> Result<(), Failed>
@@ -421,6 +421,9 @@ impl Log {
         // all went well or not.
         ensures kept { V.told → LeavesForced self.old (V.now volume.old) (V.may volume.old)
             → LeavesForced self.new (V.now volume.new) (V.may volume.new) }
+
+        // However it ends, those below went in ascending order.
+        ensures ascending { V.told → GoneInOrder 0 file (V.now volume.old) (V.now volume.new) }
         ensures gone { V.told → OnOk result ((k : ℕ) → k < file → V.now volume.new (LogFile k) ≡ None) }
         ensures above { V.told → OnOk result ((k : ℕ) → self.old.number < k → k < 2 ^ 32
             → V.now volume.new (LogFile k) ≡ None) }

@@ -11,6 +11,7 @@ invariant-logs g l = record {
   above : l.from ≤ l.at;
   later : g.V.Volume.faults l.initial.volume ≤ g.V.Volume.faults l.volume;
   gone : g.V.Volume.told → (k : ℕ) → l.from ≤ k → k < l.at → g.V.Volume.now l.volume (LogFile k) ≡ None;
+  ahead : g.V.Volume.told → (k : ℕ) → l.at ≤ k → g.V.Volume.now l.volume (LogFile k) ≡ g.V.Volume.now l.initial.volume (LogFile k);
   crash : g.V.Volume.told → (k : ℕ) (c : Option (List ℕ)) → g.V.Volume.may l.volume (LogFile k) c → g.V.Volume.may l.initial.volume (LogFile k) c ⊎ (c ≡ None);
   others : g.V.Volume.told → OnlyBetween l.from l.end (g.V.Volume.now l.initial.volume) (g.V.Volume.now l.volume) (g.V.Volume.may l.initial.volume) (g.V.Volume.may l.volume);
 }
