@@ -1,10 +1,9 @@
 // Entries added to the log, and their force.
-ghost use Rattle.std.specs.Prelude.{◌≡◌, map, All, false, true, OnOk, IsSome};
+ghost use Rattle.std.specs.Prelude.{◌≡◌, false, OnOk, IsSome};
 ghost use Rattle.tt_disk.specs.Causes.{HasCause};
 ghost use Rattle.tt_record.specs.Entries.{length_of, IsEntry};
 ghost use Rattle.tt_record.specs.Places.{place_of};
 ghost use Rattle.tt_log.specs.Walk.{is_switch};
-ghost use Rattle.tt_log.specs.Fits.{all_placed};
 ghost use Rattle.tt_log.specs.Logs.{IsOpen, LeavesForced, write_of};
 ghost use Rattle.tt_model.specs.State.{State, all_forced, with_entry};
 ghost use Rattle.tt_engine.specs.LogTrail.{HasTrail, IsQuiet, LeavesPrefix};

@@ -142,10 +142,11 @@ abbrev pub turned : Result Found LogRefusal → Result Found LogRefusal
 turned (Ok found) = Ok (record { entries = found.entries; end = position (found.end.file + 1) 0 })
 turned (Err e) = Err e
 
--- what is found, from file k on
+-- in file k or behind it
 abbrev pub is_since : ℕ → Position × Entry → Bool
 is_since k p = nat_le k p.0.file
 
+-- what is found, from file k on
 abbrev pub since : ℕ → Result Found LogRefusal → Result Found LogRefusal
 since k (Ok found) = Ok (record { entries = filter (is_since k) found.entries; end = found.end })
 since k (Err e) = Err e

@@ -52,13 +52,18 @@ fn front(bytes: &[u8], n: usize) -> &[u8]
 /// The log from its first file on. What isn't forced yet is in the buffer.
 #[derive(Debug, Drop)]
 pub struct Log {
+    // The number of the file that it begins with, and of the one that it adds to.
     first: u32,
     number: u32,
     file: GateFile,
+    // How many bytes the entries have that are forced into the current file.
     base: u32,
+    // The entries that aren't forced yet, and how many bytes they take.
     buffer: Vec<u8>,
     used: usize,
+    // Behind the last entry that was forced.
     force: Position,
+    // How many bytes the entries of a file may have.
     file_size: u32,
     ghost named: { file.name ≡ LogFile number },
     ghost numbers: { number < 1000000 },
@@ -85,7 +90,8 @@ impl Log {
     ghost use Rattle.tt_record.specs.Places.{place_of, end_of};
     ghost use Rattle.tt_log.specs.Logs.{trail_of, forced_of, moves, room_made, unforced, waiting_bytes, write_of};
     ghost use Rattle.tt_log.specs.Logs.{MayLeave, IsOpen, IsWhole, LeavesThis, LeavesEither, LeavesTurned};
-    ghost use Rattle.tt_log.specs.Logs.{LeavesForced, LeavesForcedOrAll, ForcedBeforeNextFile, GoneInOrder, OnlyTwo, OnlyBetween};
+    ghost use Rattle.tt_log.specs.Logs.{LeavesForced, LeavesForcedOrAll, ForcedBeforeNextFile, GoneInOrder};
+    ghost use Rattle.tt_log.specs.Logs.{IsUntouched, OnlyTwo, OnlyBetween};
 
     /// Removes every log file and makes an empty first one.
     pub fn make<V: Volume>(volume: &mut V) -> Result<(), Failed>
@@ -93,7 +99,8 @@ impl Log {
         ensures settled { V.told → OnOk result (LeavesThis 0 (Ok nothing) (V.may volume.new)) }
         ensures others { V.told → OnlyBetween 0 (2 ^ 32) (V.now volume.old) (V.now volume.new)
             (V.may volume.old) (V.may volume.new) }
-        // However it ends, a crash leaves no log with an entry, if it couldn't leave a first file longer than a new one before.
+        // However it ends, a crash leaves no log with an entry, provided that before the call it could leave a first file
+        // no longer than a new one has.
         ensures short { V.told → LeavesAtMost 17 (V.may volume.old (LogFile 0)) → (files : Files) → MayLeave (V.may volume.new) files
             → (found : Found) → log_of 0 files ≡ Ok found → found.entries ≡ [] }
         ensures alone { V.told → OnOk result ((k : ℕ) → 0 < k → k < 2 ^ 32 → V.now volume.new (LogFile k) ≡ None) }
@@ -294,7 +301,7 @@ impl Log {
         Ok(())
     }
 
-    // Makes room for an entry of this length: goes on in the next file where this one is full, or forces where the buffer
+    // Makes room for an entry: goes on in the next file where this one is full, or forces where the buffer
     // is.
     fn make_room<V: Volume>(&mut self, volume: &mut V, entry: &Entry) -> Result<(), Failed>
         requires entry { IsEntry entry.now }
@@ -407,8 +414,8 @@ impl Log {
         Ok(at)
     }
 
-    /// Removes every log file below this number, and every one above the current file. From then on the log begins at
-    /// this file.
+    /// Removes every log file below this number, and every one above the current file. Where the log began before this
+    /// file, it begins at it from then on.
     pub fn remove_below<V: Volume>(&mut self, volume: &mut V, file: u32) -> Result<(), Failed>
         requires file { file ≤ self.old.number }
         requires open { V.told → IsOpen self.old (V.now volume.old) (V.may volume.old) }
@@ -429,7 +436,9 @@ impl Log {
             → V.now volume.new (LogFile k) ≡ None) }
         ensures waiting { unforced self.new ≡ unforced self.old }
 
-        // The log's own files stay.
+        // From this number to the current file each stays as it is, however it ends.
+        ensures stay { V.told → (k : ℕ) → file ≤ k → k ≤ self.old.number → IsUntouched (LogFile k)
+            (V.now volume.old) (V.now volume.new) (V.may volume.old) (V.may volume.new) }
         ensures there { V.told → (k : ℕ) → self.new.first ≤ k → k ≤ self.new.number → IsSome (V.now volume.new (LogFile k)) }
         ensures write { write_of self.new ≡ write_of self.old }
         ensures force { self.new.force ≡ self.old.force }

@@ -7,7 +7,7 @@ pub enum LogRefusal {
     /// The file of this number isn't there, or doesn't have the header of a log file of this number.
     Gap { file: u32 },
     /// In this file a batch isn't one of entries that may stand there. Its gate is at this offset, in bytes. At offset 0
-    /// the batches are as they should be, and the position that was asked for is no entry's.
+    /// the batches are as they should be, and at the position that was asked for no entry begins and the entries don't end.
     BadBatch { file: u32, at: u64 },
     /// A call of the volume failed, and the volume counted it.
     Failed,

@@ -318,7 +318,8 @@ impl Scan {
     }
 
     /// The next forced entry at or behind the scan's first position, with its position; `None` where none is left,
-    /// which is at the end of what is forced. No file changes. After a refusal the scan stands where it stood.
+    /// which is at the end of what is forced. No file changes. After a refusal all that was left to give is
+    /// still left.
     /// Over every volume, what it gives is in an entry's ranges, and leaves less to read: so a pass ends.
     ///
     /// The volume and the log must be those that the scan was made for, and no entry may have been forced since.

@@ -74,7 +74,7 @@ fn take_all<V: Volume>(alloc: Global, log: &Log, volume: &mut V) -> Result<Progr
     }
 }
 
-/// Opens a log from its first file on, and finds what its entries stand for. No file changes. Sizes are in bytes; that of a
+/// Opens a log from the file numbered 0 on, and finds what its entries stand for. No file changes. Sizes are in bytes; that of a
 /// file counts its entries alone.
 ///
 /// The first damage on the walk through the files is refused, as `Gap` or as `BadBatch`; `Failed` where a call of the volume

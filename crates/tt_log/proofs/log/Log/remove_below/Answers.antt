@@ -140,3 +140,20 @@ returns-clause-there g c told k low high =
     let stays = (c.remove_logs.ensures.others told).reads (LogFile k) (out_high 0 c.args.file k above) in
     let stays2 = (c.remove_logs-2.ensures.others told).reads (LogFile k) (out_low (log.number + 1) _ k (omega (arith, high))) in
     subst (λ (f : Option (List ℕ)). IsSome f) (sym (stays2 ∙ stays)) (file_there log (g.V.Volume.now c.args.volume.now) k (o.whole, o.end) first high log.numbers)
+
+pub returns-in_err-remove_logs-clause-stay : goal.returns-in_err-remove_logs-clause-stay
+returns-in_err-remove_logs-clause-stay g c told k low high =
+    let only = c.remove_logs.ensures.others told in
+    let out = out_high 0 c.args.file k low in
+    record { reads = only.reads (LogFile k) out; crash = only.crash (LogFile k) out }
+
+pub returns-clause-stay : goal.returns-clause-stay
+returns-clause-stay g c told k low high =
+    let first = c.remove_logs.ensures.others told in
+    let second = c.remove_logs-2.ensures.others told in
+    let below = out_high 0 c.args.file k low in
+    let above = out_low (c.args.self.now.number + 1) _ k (omega (arith, high)) in
+    record {
+      reads = second.reads (LogFile k) above ∙ first.reads (LogFile k) below;
+      crash = λ content may. first.crash (LogFile k) below content (second.crash (LogFile k) above content may);
+    }
