@@ -15,7 +15,7 @@ use Rattle.tt_value.specs.declared.refusal.Refusal.TheVariants.{DuplicateKey, Lo
 use Rattle.tt_value.specs.declared.position.Position.{Position}
 use Rattle.tt_record.specs.declared.entry.Entry.{Entry}
 use Rattle.tt_record.specs.declared.entry.Entry.TheVariants.{Change}
-use Rattle.tt_value.specs.Words.{be}
+use Rattle.tt_value.specs.Words.{big_endian}
 use Rattle.tt_value.specs.Stored.{IsStorableValue}
 use Rattle.tt_value.specs.declared.value.Value.TheVariants.{Int}
 use Rattle.tt_record.specs.Entries.{IsEntry, length_of}
@@ -237,7 +237,7 @@ made_filled s t p key value number place is at =
 
 -- the length of a Change is that of its cells
 change_length : (t p : ℕ) (b a : Cell) → length_of (Change t p b a) ≡ length_of (Change 1 0 b a)
-unfolding be
+unfolding big_endian
 change_length t p b a = refl
 
 number_there : (e : Engine) (now : Files) (s : State) (t : ℕ) → Stands e now s → t ≡ unwrap_or e.own e.next → t < 2 ^ 48 → no_number_for (s.own 1) s ≡ None
@@ -336,7 +336,7 @@ numbers_out e now key value s h fresh is =
 
 -- the Change of an insert is an entry
 pub insert_entry : (t p : ℕ) (key value : ℤ) (e : Entry) → e ≡ Change t p Empty (Full kv (row_of key value)) → 1 ≤ t → t < 2 ^ 48 → p < places_end → FitsSigned w64 key → FitsSigned w64 value → IsEntry e
-unfolding be
+unfolding big_endian
 insert_entry t p key value e is some small inside first second =
     subst (λ x. IsEntry x) (sym is)
     (record {

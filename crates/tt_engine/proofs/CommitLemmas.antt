@@ -9,10 +9,10 @@ use Rattle.tt_value.specs.declared.reply.Reply.TheVariants.{Done, Refused}
 use Rattle.tt_record.specs.declared.entry.Entry.TheVariants.{Commit as CommitEntry}
 use Rattle.tt_record.specs.Entries.{length_of}
 use Rattle.tt_record.specs.Places.{place_of}
-use Rattle.tt_value.specs.Words.{be}
+use Rattle.tt_value.specs.Words.{big_endian}
 use Rattle.tt_log.specs.declared.log.Log.{Log}
-use Rattle.tt_log.specs.Walk.{Files}
-use Rattle.tt_log.specs.Logs.{write_of, IsOpen, LeavesForced}
+use Rattle.tt_log.specs.Walk.{Files, log_of}
+use Rattle.tt_log.specs.Logs.{write_of, IsOpen, LeavesForced, LeavesThis}
 use Rattle.tt_model.specs.Trail.{Trail, Placed}
 use Rattle.tt_model.specs.Committed.{changed_by, committed, is_full}
 use Rattle.tt_model.specs.Live.{in_use, is_live, live, next_number, touched, view_of, without_number}
@@ -29,13 +29,14 @@ use Rattle.tt_engine.specs.Requests.{answer, has_key, kv, sees_key}
 use Rattle.tt_engine.specs.declared.rows.Rows.{Rows}
 use Rattle.tt_engine.specs.Engines.{FillsPlaces, HoldRows, IsAlone, Stands}
 use Rattle.tt_engine.specs.Laws.{Laws}
-use Rattle.tt_recover.specs.Opening.{found_by}
+use Rattle.tt_recover.specs.Opening.{found_by, found_in, newest_first, opening}
 use Rattle.tt_engine.specs.LogTrail.{FindsFirst, HasTrail, LeavesPrefix, IsQuiet}
-use Rattle.tt_engine.specs.PrefixLaws.{prefix_opens}
-use Rattle.tt_engine.specs.Prefixes.{IsBehindFound, LeavesOpening}
+use Rattle.tt_engine.specs.OpeningLaws.{reads_settled}
+use Rattle.tt_engine.specs.PrefixLaws.{prefix_opens, stands_for}
+use Rattle.tt_engine.specs.Prefixes.{IsBehindFound, LeavesOpening, LogsAreSettled, OpensForced}
 use Rattle.tt_engine.proofs.InsertLemmas.{changed_untouched, self_eq, touched_parts}
 use Rattle.tt_engine.proofs.ChangeLemmas.{place_test, same_place}
-use Rattle.tt_engine.proofs.TrailLemmas.{Outcomes, left_forced}
+use Rattle.tt_engine.proofs.TrailLemmas.{Outcomes, forced_read, left_forced}
 
 -- the state behind the Commit of the own transaction, before any force
 unfoldable pub closed : ℕ → State → State
@@ -289,7 +290,7 @@ closed_least t s law most = law.least s.settings.log_file_size s.settings.log_bu
 -- ---- the answer to a commit
 
 end_is : (t : ℕ) → length_of (CommitEntry t) ≡ end_length
-unfolding be
+unfolding big_endian
 end_is t = refl
 
 pub commit_out : (e : Engine) (now : Files) (s : State) (t : ℕ) → Stands e now s → e.own ≡ Some t → place_of (write_of e.log) (length_of (CommitEntry t)) e.log.file_size ≡ None → answer Commit s ≡ (Refused LogOut, s)
@@ -421,3 +422,15 @@ durable_quiet s durable q = let there = subst (λ (b : Bool). IsQuiet s (settled
 -- between two lines a crash leaves what is forced
 pub forced_found : (e : Engine) (now : Files) (may : Outcomes) (s : State) → Laws → Stands e now s → IsOpen e.log now may → LeavesForced e.log now may → LeavesOpening s.forced s may
 forced_found e now may s laws h o leaves = state_opens e now s may laws h (λ files left. (s.forced, omega arith, left_forced e.log now may may s o h.log leaves files left))
+
+-- what opening finds between two lines
+pub forced_now : (e : Engine) (now : Files) (may : Outcomes) (s : State) → Laws → Stands e now s → IsOpen e.log now may → OpensForced s now
+unfolding opening
+forced_now e now may s laws h o =
+    let f = forced_read e.log now may s o h.log in
+    record { found = found_by (newest_first f.found.entries) f.found.end; is = ap found_in f.is; stands = stands_for laws.opening s.forced s now (behind_found e now s h) h.log.bounds.0 f }
+
+-- and that a crash leaves the same
+pub forced_settled : (e : Engine) (now : Files) (may : Outcomes) (s : State) → Laws → Stands e now s → IsOpen e.log now may → LeavesForced e.log now may → LogsAreSettled now may
+forced_settled e now may s laws h o leaves =
+    reads_settled now may (forced_now e now may s laws h o).found (forced_now e now may s laws h o).is (subst (λ (n : ℕ). LeavesThis n (log_of n now) may) h.log.first leaves)

@@ -1,5 +1,5 @@
 -- The engine with which a run begins.
-use Rattle.std.proofs.Common.{◌≡◌, inl, ◌-◌, ◌*◌, ◌||◌, ◌∙◌, ℕ, ℤ, suc, nat_eq, Bool, true, false, List, [], ◌∷◌, length, drop, Option, None, Result, Ok, Err, if◌then◌else◌, refl, sym, ap, subst, append-nil, arith}
+use Rattle.std.proofs.Common.{◌≡◌, ◌⊎◌, inl, inr, ap₂, Some, ◌-◌, ◌*◌, ◌||◌, ◌∙◌, ℕ, ℤ, suc, nat_eq, Bool, true, false, List, [], ◌∷◌, length, drop, Option, None, Result, Ok, Err, if◌then◌else◌, refl, sym, ap, subst, append-nil, arith}
 use Rattle.std.specs.List.{list_any}
 use Rattle.std.proofs.Math.Seq.{drop-nil}
 use Rattle.tt_value.specs.declared.position.Position.{Position}
@@ -21,7 +21,7 @@ use Rattle.tt_model.specs.Tables.{rows_of}
 use Rattle.tt_model.specs.State.{State, bound, is_used, next, placed, view, with_entry}
 use Rattle.tt_recover.specs.declared.recovery.Recovered.{Recovered}
 use Rattle.tt_recover.specs.declared.replay.FoundRow.{FoundRow}
-use Rattle.tt_recover.specs.Opening.{found_by, found_in, newest_first, opening}
+use Rattle.tt_recover.specs.Opening.{found_by, newest_first, opening}
 use Rattle.tt_recover.specs.Recoveries.{IsRecovered}
 use Rattle.tt_recover.specs.Replays.{AreInOrder, cell_shown}
 use Rattle.tt_engine.specs.declared.engine.Engine.{Engine}
@@ -36,48 +36,20 @@ use Rattle.tt_engine.specs.PrefixLaws.{number_again, prefix_opens, since_origin}
 use Rattle.tt_engine.specs.Prefixes.{IsBehindFound, LeavesOpening}
 use Rattle.tt_model.specs.Laws.{OpeningFindsCommitted}
 use Rattle.tt_engine.specs.Requests.{sees_key}
-use Rattle.tt_engine.specs.Starts.{are_there, begun_over}
+use Rattle.tt_engine.specs.Refusals.{refusal_of}
+use Rattle.tt_engine.specs.Starts.{IsRefusedSo, UnlessFailed, are_there, begun_over, database, opened_in}
+use Rattle.tt_engine.specs.declared.refusal.OpenRefusal.{OpenRefusal}
+use Rattle.tt_engine.specs.declared.refusal.OpenRefusal.TheVariants.{NoDatabase, Damaged, LogOut, Failed, NoMemory}
+use Rattle.tt_log.specs.declared.refusal.LogRefusal.TheVariants as log
+use Rattle.tt_disk.specs.declared.volume.Name.TheVariants.{Log as LogFile}
+use Rattle.tt_record.specs.Entries.{length_of}
+use Rattle.tt_record.specs.Places.{place_of}
+use Rattle.std.specs.Prelude.{IfErr, IsSome, IsTrue, OnOk, option_map, ◌↔◌}
+use Rattle.tt_engine.specs.OpeningLaws.{found_is, read_is, same_ok}
 use Rattle.tt_engine.proofs.PlaceLemmas.{any_here, any_found, any_row, in_cell, same_test}
 use Rattle.tt_engine.proofs.CommitLemmas.{none_filled}
 use Rattle.tt_engine.proofs.FoundLemmas.{found_key, full_below, shown_full, shown_key}
 use Rattle.tt_engine.proofs.TrailLemmas.{Outcomes, left_forced, oldest_all, oldest_more}
-
--- ---- what opening found
-
-ok_or : Found → Result Found LogRefusal → Found
-ok_or other (Ok found) = found
-ok_or other (Err e) = other
-
-same_ok : (a b : Found) → (r q : Result Found LogRefusal) → r ≡ Ok a → q ≡ Ok b → r ≡ q → a ≡ b
-unfolding ok_or
-same_ok a b r q is_a is_b same = sym (ap (ok_or a) is_a) ∙ ap (ok_or a) same ∙ ap (ok_or a) is_b
-
-found_part : (r : Result Read LogRefusal) (found : Found) → found_in r ≡ Ok found → found ≡ found_by found.entries found.end
-found_part (Ok read) found is =
-    let same : found_by (newest_first read.entries) read.end ≡ found = same_ok (found_by (newest_first read.entries) read.end) found (Ok (found_by (newest_first read.entries) read.end)) (Ok found) refl refl is in
-    sym same ∙ ap (λ (f : Found). found_by f.entries f.end) same
-found_part (Err e) found is = cc
-
-pub found_is : (files : Files) (found : Found) → opening files ≡ Ok found → found ≡ found_by found.entries found.end
-unfolding opening
-found_is files found is = found_part (log_of 0 files) found is
-
--- the walk behind it
-pub record IsRead (r : Result Read LogRefusal) (found : Found) : Type 0 where
-  pub read : Read
-  pub is : r ≡ Ok read
-  pub entries : newest_first read.entries ≡ found.entries
-  pub end : read.end ≡ found.end
-
-read_part : (r : Result Read LogRefusal) (found : Found) → found_in r ≡ Ok found → IsRead r found
-read_part (Ok read) found is =
-    let same : found_by (newest_first read.entries) read.end ≡ found = same_ok (found_by (newest_first read.entries) read.end) found (Ok (found_by (newest_first read.entries) read.end)) (Ok found) refl refl is in
-    record { read = read; is = refl; entries = ap (λ (f : Found). f.entries) same; end = ap (λ (f : Found). f.end) same }
-read_part (Err e) found is = cc
-
-pub read_is : (files : Files) (found : Found) → opening files ≡ Ok found → IsRead (log_of 0 files) found
-unfolding opening
-read_is files found is = read_part (log_of 0 files) found is
 
 -- ---- the state before the Mark, and behind it
 
@@ -306,3 +278,49 @@ pub marked_prefix : (log : Log) (now : Files) (may may' : Outcomes) (settings : 
 unfolding begun with_entry
 marked_prefix log now may may' settings old found o h leaves files left =
     ((with_entry Mark (opened settings found (are_there old) no_sets)).forced, h.bounds.0, left_forced log now may may' (with_entry Mark (opened settings found (are_there old) no_sets)) o h leaves files left)
+
+-- ---- where the Mark stands, and what stays
+
+pub mark_placed : (settings : Settings) (old mid : Files) (r : Recovered) (e : Engine) → IsReady settings old mid r e → (found : Found) → opening old ≡ Ok found → (b : Bool)
+    → (IsTrue b ↔ IsSome (place_of (write_of e.log) (length_of Mark) e.log.file_size)) → b ≡ true → IsSome (place_of found.end (length_of Mark) settings.log_file_size)
+mark_placed settings old mid r e ready found is b iff there =
+    let h = mark_ready settings old mid r e ready found is in
+    subst (λ (k : ℕ). IsSome (place_of found.end (length_of Mark) k)) h.sizes.0 (subst (λ (p : Position). IsSome (place_of p (length_of Mark) e.log.file_size)) h.write (iff.0 there))
+
+-- a database whose first log file is there is refused as its log is
+pub refused_there : (settings : Settings) (old : Files) (e : LogRefusal) → IsSome (old (LogFile 0)) → (e ≡ log.Failed) ⊎ ((e ≡ log.NoMemory) ⊎ (opening old ≡ Err e)) → IsRefusedSo settings old (refusal_of e)
+refused_there settings old e there why = by (old (LogFile 0)) refl there e why
+  where
+    by : (o : Option (List ℕ)) → old (LogFile 0) ≡ o → IsSome o → (e : LogRefusal) → (e ≡ log.Failed) ⊎ ((e ≡ log.NoMemory) ⊎ (opening old ≡ Err e)) → IsRefusedSo settings old (refusal_of e)
+    by (Some f) file some (log.Gap n) (inr (inr is)) = ap₂ opened_in file is
+    by (Some f) file some (log.BadBatch n at) (inr (inr is)) = ap₂ opened_in file is
+    by (Some f) file some (log.Gap n) (inr (inl is)) = cc
+    by (Some f) file some (log.BadBatch n at) (inr (inl is)) = cc
+    by (Some f) file some (log.Gap n) (inl is) = cc
+    by (Some f) file some (log.BadBatch n at) (inl is) = cc
+    by (Some f) file some log.Failed why = tt
+    by (Some f) file some log.NoMemory why = tt
+    by None file some e why = cc
+
+pub no_database : (old : Files) → old (LogFile 0) ≡ None → database old ≡ Err NoDatabase
+no_database old none = ap (λ (o : Option (List ℕ)). opened_in o (opening old)) none
+
+pub found_not_damaged : (old : Files) (found : Found) (e : LogRefusal) → opening old ≡ Ok found → opening old ≡ Err e → ⊥
+found_not_damaged old found e is other = let bad : ⊥ = cc in bad
+
+-- a file that was sized and isn't there
+pub no_file : (o : Option (List ℕ)) → None ≡ option_map length o → o ≡ None
+no_file None is = refl
+no_file (Some f) is = cc
+
+pub on_ok : {T E : Type 0} (r : Result T E) (P Q : Type 0) → (P → Q) → OnOk r P → OnOk r Q
+on_ok (Ok x) P Q f p = f p
+on_ok (Err e) P Q f p = tt
+
+pub on_refusal : {T : Type 0} (r : Result T OpenRefusal) (P Q : Type 0) → (P → Q) → IfErr r (λ e. UnlessFailed e P) → IfErr r (λ e. UnlessFailed e Q)
+on_refusal (Ok x) P Q f p = tt
+on_refusal (Err NoDatabase) P Q f p = f p
+on_refusal (Err (Damaged d)) P Q f p = f p
+on_refusal (Err LogOut) P Q f p = f p
+on_refusal (Err Failed) P Q f p = tt
+on_refusal (Err NoMemory) P Q f p = f p

@@ -279,6 +279,9 @@ left_prefix log now may may' s o h leaves files left = by (leaves files left)
     by (inr all) = (length (trail s), h.bounds.1, finds_all log now s files h all)
 
 -- where a crash leaves just what a read gives, that is the forced entries
+pub forced_read : (log : Log) (now : Files) (may : Outcomes) (s : State) → IsOpen log now may → HasTrail log now s → FindsFirst s.forced s now
+forced_read log now may s o h = finds_forced log now may s now o h refl
+
 pub left_forced : (log : Log) (now : Files) (may may' : Outcomes) (s : State) → IsOpen log now may → HasTrail log now s → LeavesForced log now may' → (files : Files) → MayLeave may' files → FindsFirst s.forced s files
 left_forced log now may may' s o h leaves files left = finds_forced log now may s files o h (leaves files left)
 

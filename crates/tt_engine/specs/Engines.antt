@@ -17,7 +17,7 @@ use Rattle.tt_engine.specs.declared.rows.Rows.{Rows}
 use Rattle.tt_disk.specs.declared.volume.Name.{Name}
 use Rattle.tt_recover.specs.Opening.{found_by}
 use Rattle.tt_engine.specs.LogTrail.{HasTrail, IsQuiet}
-use Rattle.tt_engine.specs.Prefixes.{LeavesOpening}
+use Rattle.tt_engine.specs.Prefixes.{IsOnward, LeavesOpening}
 use Rattle.tt_engine.specs.declared.request.Request.{Request}
 use Rattle.tt_engine.specs.Requests.{Answers, answer, kv, row_of, sees_key}
 
@@ -67,6 +67,14 @@ pub record AnswersSo (request : Request) (s : State) (reply : Reply) (e : Engine
   pub after : State
   pub answers : Answers request s reply after
   pub stands : Stands e now after
+
+-- The same; the state behind it is a later one, and where nothing more is forced and no file begins, the log files are the same.
+pub record Advances (request : Request) (s : State) (reply : Reply) (e : Engine) (now : Files) (same : Type 0) : Type 0 where
+  pub after : State
+  pub answers : Answers request s reply after
+  pub stands : Stands e now after
+  pub onward : IsOnward s after
+  pub quiet : IsQuiet s after → same
 
 -- The entry is the Change of an insert that no row with the key is in the way of.
 pub record IsInsert (s : State) (e : Engine) (transaction : ℕ) (key value : ℤ) (entry : Entry) : Type 0 where

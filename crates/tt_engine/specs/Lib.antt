@@ -3,9 +3,12 @@ pub mod Founds
 pub mod Keys
 pub mod Laws
 pub mod LogTrail
+pub mod OnwardLaws
+pub mod OpeningLaws
 pub mod Overs
 pub mod PrefixLaws
 pub mod Prefixes
 pub mod Refusals
+pub mod RequestLaws
 pub mod Requests
 pub mod Starts

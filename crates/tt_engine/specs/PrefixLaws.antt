@@ -60,7 +60,7 @@ held_all bound es end t = ap (λ f. since (position f 0) t) (hold_file bound es 
 
 -- ---- the prefix
 
-stands_for : (law : OpeningFindsCommitted) (n : ℕ) (s : State) (files : Files) → IsBehindFound s → length s.found.entries ≤ n → (f : FindsFirst n s files) → StandsForFirst n s (found_by (newest_first f.found.entries) f.found.end)
+pub stands_for : (law : OpeningFindsCommitted) (n : ℕ) (s : State) (files : Files) → IsBehindFound s → length s.found.entries ≤ n → (f : FindsFirst n s files) → StandsForFirst n s (found_by (newest_first f.found.entries) f.found.end)
 stands_for law n s files b low f =
     let es = newest_first f.found.entries in
     let old = s.found.entries in

@@ -1,11 +1,12 @@
 -- What opening finds after a crash: the tables, entries and positions behind a prefix of a state's trail.
-use Rattle.std.specs.Prelude.{◌≡◌, ℕ, List, Option, Ok}
+use Rattle.std.specs.Prelude.{◌≡◌, ◌≤◌, ℕ, List, Option, Some, None, Result, Ok, Err, length}
 use Rattle.tt_disk.specs.declared.volume.Name.{Name}
 use Rattle.tt_log.specs.Walk.{Files}
+use Rattle.tt_log.specs.declared.refusal.LogRefusal.{LogRefusal}
 use Rattle.tt_log.specs.Logs.{MayLeave}
 use Rattle.tt_model.specs.Found.{Found}
-use Rattle.tt_model.specs.Prefix.{StandsForPrefix}
-use Rattle.tt_model.specs.State.{State}
+use Rattle.tt_model.specs.Prefix.{IsSettled, StandsForFirst, StandsForPrefix}
+use Rattle.tt_model.specs.State.{State, write_position}
 use Rattle.tt_model.specs.Steady.{IsGrown}
 use Rattle.tt_recover.specs.Numbers.{AreNumberedFrom}
 use Rattle.tt_recover.specs.Opening.{found_by, opening}
@@ -23,3 +24,37 @@ OpensPrefix least s files = (found : Found) × (opening files ≡ Ok found) × S
 -- the same of every map of files that a crash may leave
 abbrev pub LeavesOpening : ℕ → State → (Name → Option (List ℕ) → Type 0) → Type 0
 LeavesOpening least s may = (files : Files) → MayLeave may files → OpensPrefix least s files
+
+-- what opening these files finds stands for just the entries of a state that are forced
+pub record OpensForced (s : State) (files : Files) : Type 0 where
+  pub found : Found
+  pub is : opening files ≡ Ok found
+  pub stands : StandsForFirst s.forced s found
+
+abbrev pub or_none : Result Found LogRefusal → Option Found
+or_none (Ok found) = Some found
+or_none (Err e) = None
+
+-- what opening these files finds, where the log has no damage
+abbrev pub opens : Files → Option Found
+opens files = or_none (opening files)
+
+-- opening finds the same in every map of files that a crash may leave as in the present one
+abbrev pub LogsAreSettled : Files → (Name → Option (List ℕ) → Type 0) → Type 0
+LogsAreSettled now may = IsSettled opens (MayLeave may) now
+
+-- A later state of a run: what opening found is the same, the forced part didn't fall, and the end didn't go back.
+pub record IsOnward (s after : State) : Type 0 where
+  pub found : after.found ≡ s.found
+  pub forced : s.forced ≤ after.forced
+  pub file : (write_position s).file ≤ (write_position after).file
+
+-- a state behind the one that opening found
+pub record IsSinceOpening (s : State) : Type 0 where
+  pub forced : length s.found.entries ≤ s.forced
+  pub file : s.found.end.file ≤ (write_position s).file
+
+-- Since opening nothing was forced, and no file began.
+pub record IsStill (s : State) : Type 0 where
+  pub forced : s.forced ≡ length s.found.entries
+  pub file : (write_position s).file ≡ s.found.end.file

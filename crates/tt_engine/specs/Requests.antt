@@ -6,7 +6,7 @@ use Rattle.tt_value.specs.declared.value.Row.{Row}
 use Rattle.tt_value.specs.declared.value.Cell.TheVariants.{Empty, Full}
 use Rattle.tt_value.specs.declared.refusal.Refusal.TheVariants.{DuplicateKey, NoMemory}
 use Rattle.tt_value.specs.declared.reply.Reply.{Reply}
-use Rattle.tt_value.specs.declared.reply.Reply.TheVariants.{Done, Positions, Refused as RefusedSo}
+use Rattle.tt_value.specs.declared.reply.Reply.TheVariants.{Done, Changed, Positions, Refused as RefusedSo}
 use Rattle.tt_record.specs.Places.{position}
 use Rattle.tt_model.specs.Holders.{values_at}
 use Rattle.tt_model.specs.Values.{same_values}
@@ -42,6 +42,14 @@ answer Flush s = (Done, all_forced s)
 answer DurableCommit s = (Done, record s { wish = at_one 1 true s.wish })
 answer Bookmark s = (Positions (write_position s) (force_position s) (position 0 0), s)
 answer (Refused refusal) s = refused refusal s
+
+-- a reply that some line gives
+abbrev pub IsGiven : Reply → Type 0
+IsGiven Done = Unit {0}
+IsGiven (Changed n) = Unit {0}
+IsGiven (Positions write force hold) = Unit {0}
+IsGiven (RefusedSo refusal) = Unit {0}
+IsGiven _ = ⊥
 
 -- the lines for which memory may be wanting
 abbrev pub takes_memory : Request → Bool

@@ -1,5 +1,5 @@
 // The machine of one table and one session.
-ghost use Rattle.std.specs.Prelude.{◌≡◌, ◌<◌, ◌≤◌, ◌+◌, ◌^◌, ◌∷◌, [], ◌||◌, ℕ, ℤ};
+ghost use Rattle.std.specs.Prelude.{◌≡◌, ◌<◌, ◌≤◌, ◌+◌, ◌^◌, ◌∷◌, [], ◌||◌, ◌≢◌, ℕ, ℤ};
 ghost use Rattle.std.specs.Prelude.{false, max, suc, None, Some, IsSome, unwrap_or, OnOk, OnErr, IfOk, IfSome, IfNone};
 ghost use Rattle.std.specs.Option.{ForSome};
 ghost use Rattle.tt_disk.specs.Causes.{HasCause};
@@ -13,9 +13,11 @@ ghost use Rattle.tt_model.specs.State.{State, all_forced};
 ghost use Rattle.tt_model.specs.Step.{forced_where, is_durable, settled};
 ghost use Rattle.tt_engine.specs.declared.request.Request.TheVariants.{Bookmark, Commit, DurableCommit, Flush, Insert};
 ghost use Rattle.tt_engine.specs.Laws.{Laws};
-ghost use Rattle.tt_engine.specs.Prefixes.{LeavesOpening};
+ghost use Rattle.tt_engine.specs.Prefixes.{IsOnward, IsSinceOpening, IsStill, LeavesOpening, LogsAreSettled, OpensForced};
 ghost use Rattle.tt_engine.specs.LogTrail.{IsQuiet, LeavesPrefix};
-ghost use Rattle.tt_engine.specs.Requests.{answer, own_number, row_of};
+ghost use Rattle.tt_engine.specs.Requests.{IsGiven, answer, own_number, row_of};
+ghost use Rattle.tt_value.specs.declared.refusal.Refusal.TheVariants.{NoMemory};
+ghost use Rattle.tt_value.specs.declared.reply.Reply.TheVariants.{Refused as RefusedSo};
 
 use crate::journal::{add, force};
 use crate::refusal::{OpenRefusal, refusal_of};
@@ -87,17 +89,19 @@ fn insert_entry(
 }
 
 impl Engine {
-    ghost use Rattle.tt_engine.specs.Engines.{Stands, AnswersSo, IsInsert, LeavesLine, IsQuietLine};
+    ghost use Rattle.tt_engine.specs.Engines.{Stands, Advances, AnswersSo, IsInsert, LeavesLine, IsQuietLine};
     ghost use Rattle.tt_engine.specs.LogTrail.{HasTrail};
-    ghost use Rattle.tt_engine.specs.Starts.{IsStarted, IsRefusedSo, begun_over};
+    ghost use Rattle.tt_engine.specs.Starts.{IsStarted, IsRefusedSo, UnlessFailed, begun_over};
     ghost use Rattle.tt_set.specs.Attributes.{AreInRange};
     ghost use Rattle.tt_disk.specs.declared.volume.Name.TheVariants.{Log as LogFile};
     ghost use Rattle.tt_disk.specs.Causes.{RoseWhere};
+    ghost use Rattle.tt_disk.specs.Volume.{Keeps};
     ghost use Rattle.tt_log.specs.Logs.{LeavesThis};
     ghost use Rattle.tt_log.specs.Walk.{log_of};
     ghost use Rattle.tt_model.specs.Found.{Found};
     ghost use Rattle.tt_recover.specs.Opening.{opening};
-    ghost use Rattle.std.specs.Prelude.{length, IfErr, IsErrOf, Ok};
+    ghost use Rattle.std.specs.Prelude.{length, IfErr, IsErrOf, Ok, Err};
+    ghost use Rattle.tt_log.specs.declared.refusal.LogRefusal.{LogRefusal};
     ghost use Rattle.tt_engine.specs.Overs.{IsOver};
     ghost use Rattle.tt_model.specs.State.{with_entry};
     ghost use Rattle.tt_log.specs.Logs.{write_of};
@@ -139,6 +143,8 @@ impl Engine {
         ensures kept { L.told → LeavesForced self.old.log (L.now logs.old) (L.may logs.old)
             → OnOk result (LeavesForced self.new.log (L.now logs.new) (L.may logs.new)) }
         ensures quiet { IfOk result (λ b. b ≡ false → (logs.new ≡ logs.old) × (self.new ≡ self.old)) }
+        ensures calm { L.told → (s : State) → HasTrail self.old.log (L.now logs.old) s → IsQuiet s (with_entry Mark s)
+            → OnOk result (logs.new ≡ logs.old) }
         ensures still { (self.new.durable_commits ≡ self.old.durable_commits) × (self.new.next ≡ self.old.next)
             × (self.new.own ≡ self.old.own)
             × (self.new.wish ≡ self.old.wish) × (self.new.rows ≡ self.old.rows) }
@@ -170,6 +176,13 @@ impl Engine {
             → LeavesOpening (length found.entries) (begun_over settings.now (L.now logs.old) found) (L.may logs.new) }
         ensures kept { L.told → LeavesThis 0 (log_of 0 (L.now logs.old)) (L.may logs.old)
             → IfOk result (λ e. LeavesForced e.log (L.now logs.new) (L.may logs.new)) }
+        ensures still { L.told → (found : Found) → opening (L.now logs.old) ≡ Ok found
+            → IsStill (begun_over settings.now (L.now logs.old) found)
+            → OnOk result (Keeps (L.now logs.old) (L.now logs.new) (L.may logs.old) (L.may logs.new)) }
+        ensures unchanged { L.told → IfErr result (λ e. UnlessFailed e
+            (Keeps (L.now logs.old) (L.now logs.new) (L.may logs.old) (L.may logs.new))) }
+        ensures damaged { L.told → (e : LogRefusal) → opening (L.now logs.old) ≡ Err e
+            → Keeps (L.now logs.old) (L.now logs.new) (L.may logs.old) (L.may logs.new) }
         ensures cause { RoseWhere (IsErrOf result OpenRefusal.Failed) (L.faults logs.old) (L.faults logs.new) }
     {
         laws();
@@ -189,8 +202,8 @@ impl Engine {
     }
 
     /// Opens a database: finds what its log stands for, and adds the Mark with which a run begins, unforced. Where the
-    /// first log file isn't there, there is no database. After a refusal the log files have what they had, and perhaps a
-    /// further file without entries.
+    /// first log file isn't there, there is no database. After a refusal the log files are as they were, unless a call on them
+    /// failed: then they have what they had, and perhaps a further file without entries.
     pub fn start<L: Volume>(
         alloc: Global,
         settings: &Settings,
@@ -207,6 +220,17 @@ impl Engine {
             → LeavesOpening (length found.entries) (begun_over settings.now (L.now logs.old) found) (L.may logs.new) }
         ensures kept { L.told → LeavesThis 0 (log_of 0 (L.now logs.old)) (L.may logs.old)
             → IfOk result (λ e. LeavesForced e.log (L.now logs.new) (L.may logs.new)) }
+
+        // The state with which a run begins is behind the opening. Where its Mark forces nothing and begins no file, no log
+        // file changes; nor does one after a refusal, unless a call failed, or where the log is damaged.
+        ensures since { (found : Found) → IsSinceOpening (begun_over settings.now (L.now logs.old) found) }
+        ensures still { L.told → (found : Found) → opening (L.now logs.old) ≡ Ok found
+            → IsStill (begun_over settings.now (L.now logs.old) found)
+            → OnOk result (Keeps (L.now logs.old) (L.now logs.new) (L.may logs.old) (L.may logs.new)) }
+        ensures unchanged { L.told → IfErr result (λ e. UnlessFailed e
+            (Keeps (L.now logs.old) (L.now logs.new) (L.may logs.old) (L.may logs.new))) }
+        ensures damaged { L.told → (e : LogRefusal) → opening (L.now logs.old) ≡ Err e
+            → Keeps (L.now logs.old) (L.now logs.new) (L.may logs.old) (L.may logs.new) }
         ensures cause { RoseWhere (IsErrOf result OpenRefusal.Failed) (L.faults logs.old) (L.faults logs.new) }
     {
         laws();
@@ -258,6 +282,8 @@ impl Engine {
             → OnOk result (LeavesForced self.new.log (L.now logs.new) (L.may logs.new)) }
         ensures quiet { L.told → (s : State) (value : ℤ) → Stands self.old (L.now logs.old) s
             → IsInsert s self.old transaction key value entry.now → IsQuietLine (Insert key value) s → OnOk result (logs.new ≡ logs.old) }
+        ensures wanting { IfOk result (λ reply. reply ≡ RefusedSo NoMemory → logs.new ≡ logs.old) }
+        ensures given { IfOk result IsGiven }
         ensures cause { HasCause (L.faults logs.old) (L.faults logs.new) result }
     {
         laws();
@@ -295,6 +321,8 @@ impl Engine {
             → OnOk result (LeavesForced self.new.log (L.now logs.new) (L.may logs.new)) }
         ensures quiet { L.told → (s : State) → Stands self.old (L.now logs.old) s → IsQuietLine (Insert key value) s
             → OnOk result (logs.new ≡ logs.old) }
+        ensures wanting { IfOk result (λ reply. reply ≡ RefusedSo NoMemory → logs.new ≡ logs.old) }
+        ensures given { IfOk result IsGiven }
         ensures cause { HasCause (L.faults logs.old) (L.faults logs.new) result }
     {
         if self.rows.has_key(key) {
@@ -361,6 +389,8 @@ impl Engine {
             → OnOk result (LeavesForced self.new.log (L.now logs.new) (L.may logs.new)) }
         ensures quiet { L.told → (s : State) → Stands self.old (L.now logs.old) s → IsQuietLine Commit s
             → OnOk result (logs.new ≡ logs.old) }
+        ensures wanting { IfOk result (λ reply. reply ≡ RefusedSo NoMemory → logs.new ≡ logs.old) }
+        ensures given { IfOk result IsGiven }
         ensures cause { HasCause (L.faults logs.old) (L.faults logs.new) result }
     {
         laws();
@@ -391,6 +421,8 @@ impl Engine {
             → OnOk result (LeavesForced self.new.log (L.now logs.new) (L.may logs.new)) }
         ensures quiet { L.told → (s : State) → Stands self.old (L.now logs.old) s → IsQuietLine Commit s
             → OnOk result (logs.new ≡ logs.old) }
+        ensures wanting { IfOk result (λ reply. reply ≡ RefusedSo NoMemory → logs.new ≡ logs.old) }
+        ensures given { IfOk result IsGiven }
         ensures cause { HasCause (L.faults logs.old) (L.faults logs.new) result }
     {
         laws();
@@ -416,6 +448,8 @@ impl Engine {
             → OnOk result (LeavesForced self.new.log (L.now logs.new) (L.may logs.new)) }
         ensures quiet { L.told → (s : State) → Stands self.old (L.now logs.old) s → IsQuietLine Flush s
             → OnOk result (logs.new ≡ logs.old) }
+        ensures wanting { IfOk result (λ reply. reply ≡ RefusedSo NoMemory → logs.new ≡ logs.old) }
+        ensures given { IfOk result IsGiven }
         ensures cause { HasCause (L.faults logs.old) (L.faults logs.new) result }
     {
         laws();
@@ -427,7 +461,9 @@ impl Engine {
 
     // The positions of the log. No checkpoint file holds a later one than its beginning.
     fn positions(&self) -> Reply
-        ensures { (now : Files) (s : State) → Stands self.now now s → result ≡ (answer Bookmark s).0 }
+        ensures positions { (now : Files) (s : State) → Stands self.now now s → result ≡ (answer Bookmark s).0 }
+        ensures wanting { result ≢ RefusedSo NoMemory }
+        ensures given { IsGiven result }
     {
         Reply::Positions {
             write: self.log.write_position(),
@@ -444,8 +480,8 @@ impl Engine {
         self.wish = true;
     }
 
-    /// Does what a line asks for, and answers it. After a failed call on the log files the engine is done with.
-    pub fn step<L: Volume>(
+    // Does what a line asks for.
+    fn answer<L: Volume>(
         &mut self,
         alloc: Global,
         logs: &mut L,
@@ -453,24 +489,17 @@ impl Engine {
     ) -> Result<Reply, Failed>
         requires open { L.told → IsOpen self.old.log (L.now logs.old) (L.may logs.old) }
         ensures open { L.told → OnOk result (IsOpen self.new.log (L.now logs.new) (L.may logs.new)) }
-
-        // For each state that the engine stood for, the reply is one that the line may have there, and the engine stands
-        // for the state behind it.
         ensures answers { L.told → (s : State) → Stands self.old (L.now logs.old) s
             → IfOk result (λ reply. AnswersSo request s reply self.new (L.now logs.new)) }
-
-        // Where a call failed, a crash leaves a prefix of the entries that the line has, and all that were forced before it.
         ensures crash { L.told → (s : State) → Stands self.old (L.now logs.old) s
             → LeavesForced self.old.log (L.now logs.old) (L.may logs.old)
             → OnErr result (LeavesLine request s (L.may logs.new)) }
-
-        // Else just the forced entries, where it could leave no others before.
         ensures kept { L.told → LeavesForced self.old.log (L.now logs.old) (L.may logs.old)
             → OnOk result (LeavesForced self.new.log (L.now logs.new) (L.may logs.new)) }
-
-        // A line that forces nothing more and begins no file makes no call.
         ensures quiet { L.told → (s : State) → Stands self.old (L.now logs.old) s → IsQuietLine request s
             → OnOk result (logs.new ≡ logs.old) }
+        ensures wanting { IfOk result (λ reply. reply ≡ RefusedSo NoMemory → logs.new ≡ logs.old) }
+        ensures given { IfOk result IsGiven }
         ensures cause { HasCause (L.faults logs.old) (L.faults logs.new) result }
     {
         match request {
@@ -486,11 +515,48 @@ impl Engine {
         }
     }
 
-    /// What a crash leaves between two lines: opening it finds what is forced. The call does nothing.
+    /// Does what a line asks for, and answers it. After a failed call on the log files the engine is done with.
+    pub fn step<L: Volume>(
+        &mut self,
+        alloc: Global,
+        logs: &mut L,
+        request: Request,
+    ) -> Result<Reply, Failed>
+        requires open { L.told → IsOpen self.old.log (L.now logs.old) (L.may logs.old) }
+        ensures open { L.told → OnOk result (IsOpen self.new.log (L.now logs.new) (L.may logs.new)) }
+
+        // For each state that the engine stood for, the reply is one that the line may have there, and the engine stands
+        // for the state behind it. A line that forces nothing more and begins no file makes no call.
+        ensures answers { L.told → (s : State) → Stands self.old (L.now logs.old) s
+            → IfOk result (λ reply. Advances request s reply self.new (L.now logs.new) (logs.new ≡ logs.old)) }
+
+        // Where a call failed, a crash leaves a prefix of the entries that the line has, and all that were forced before it.
+        ensures crash { L.told → (s : State) → Stands self.old (L.now logs.old) s
+            → LeavesForced self.old.log (L.now logs.old) (L.may logs.old)
+            → OnErr result (LeavesLine request s (L.may logs.new)) }
+
+        // Else just the forced entries, where it could leave no others before.
+        ensures kept { L.told → LeavesForced self.old.log (L.now logs.old) (L.may logs.old)
+            → OnOk result (LeavesForced self.new.log (L.now logs.new) (L.may logs.new)) }
+        ensures onward { L.told → (s : State) → Stands self.old (L.now logs.old) s → IsOnward s (answer request s).1 }
+        ensures given { IfOk result IsGiven }
+        ensures cause { HasCause (L.faults logs.old) (L.faults logs.new) result }
+    {
+        laws();
+        match self.answer(alloc, logs, request) {
+            Ok(reply) => Ok(reply),
+            Err(failed) => Err(failed),
+        }
+    }
+
+    /// What stands between two lines, and what a crash leaves: opening finds just what is forced. The call does nothing.
     pub fn opens_after_crash<L: Volume>(&self, logs: &L)
         requires open { L.told → IsOpen self.now.log (L.now logs.now) (L.may logs.now) }
-        ensures { L.told → (s : State) → Stands self.now (L.now logs.now) s
+        ensures leaves { L.told → (s : State) → Stands self.now (L.now logs.now) s
             → LeavesForced self.now.log (L.now logs.now) (L.may logs.now) → LeavesOpening s.forced s (L.may logs.now) }
+        ensures forced { L.told → (s : State) → Stands self.now (L.now logs.now) s → OpensForced s (L.now logs.now) }
+        ensures settled { L.told → (s : State) → Stands self.now (L.now logs.now) s
+            → LeavesForced self.now.log (L.now logs.now) (L.may logs.now) → LogsAreSettled (L.now logs.now) (L.may logs.now) }
     {
         laws();
         let _ = logs;
@@ -499,6 +565,7 @@ impl Engine {
     /// The end of a script: forces the log.
     pub fn end<L: Volume>(&mut self, logs: &mut L) -> Result<(), Failed>
         requires open { L.told → IsOpen self.old.log (L.now logs.old) (L.may logs.old) }
+        ensures open { L.told → OnOk result (IsOpen self.new.log (L.now logs.new) (L.may logs.new)) }
         ensures stands { L.told → (s : State) → Stands self.old (L.now logs.old) s
             → OnOk result (Stands self.new (L.now logs.new) (all_forced s)) }
         ensures crash { L.told → (s : State) → Stands self.old (L.now logs.old) s
@@ -506,6 +573,7 @@ impl Engine {
             → OnErr result (LeavesOpening s.forced s (L.may logs.new)) }
         ensures kept { L.told → LeavesForced self.old.log (L.now logs.old) (L.may logs.old)
             → OnOk result (LeavesForced self.new.log (L.now logs.new) (L.may logs.new)) }
+        ensures onward { L.told → (s : State) → Stands self.old (L.now logs.old) s → IsOnward s (all_forced s) }
         ensures quiet { L.told → (s : State) → Stands self.old (L.now logs.old) s → IsQuiet s (all_forced s)
             → OnOk result (logs.new ≡ logs.old) }
         ensures cause { HasCause (L.faults logs.old) (L.faults logs.new) result }

@@ -1,5 +1,5 @@
 // A file of a header and batches behind gate bytes.
-ghost use Rattle.std.specs.Prelude.{◌≡◌, ◌⊎◌, ◌+◌, ◌-◌, ◌^◌, ◌<◌, ◌≤◌, Option, List, [], ◌∷◌, ◌++◌, ℕ, length, OnOk, OnErr, IfOk, Ok, Err, IsErrOf, IfErr};
+ghost use Rattle.std.specs.Prelude.{◌≡◌, ◌⊎◌, ◌+◌, ◌-◌, ◌^◌, ◌<◌, ◌≤◌, Option, List, [], ◌∷◌, ◌++◌, ℕ, length, OnOk, OnErr, IfOk, Ok, Err, Some, IsErrOf, IfErr};
 ghost use Rattle.tt_disk.specs.Causes.{HasCause, RoseWhere};
 ghost use Rattle.tt_disk.specs.Volume.{Keeps, IsSettled};
 ghost use Rattle.tt_disk.specs.Laws.{OnlyAt};
@@ -87,6 +87,7 @@ impl GateFile {
         ensures ready { V.told → IfOk result
             (λ file. IsReady file (V.now volume.new) (V.may volume.new)) }
         ensures done { V.told → OnOk result (gated (V.now volume.new name) ≡ Ok (header.now, [])) }
+        ensures bytes { V.told → OnOk result (V.now volume.new name ≡ Some (header.now ++ 0 ∷ [])) }
         ensures settled { V.told → OnOk result
             (IsSettled name (V.now volume.new) (V.may volume.new)) }
         ensures fresh { IfOk result (λ file. (file.name ≡ name) × (file.staged ≡ 0)) }
@@ -199,6 +200,9 @@ impl GateFile {
         ensures ready { V.told → OnOk result
             (IsReady self.new (V.now volume.new) (V.may volume.new)) }
         ensures done { OnOk result (self.new.settled ≡ true) }
+
+        // A file that was synced since it was found isn't synced again.
+        ensures quiet { IsSynced self.old → volume.new ≡ volume.old }
         ensures keeps { V.told → Keeps (V.now volume.old) (V.now volume.new)
             (V.may volume.old) (V.may volume.new) }
         ensures same { (self.new.name ≡ self.old.name) × (self.new.gate ≡ self.old.gate)

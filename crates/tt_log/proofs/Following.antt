@@ -41,7 +41,7 @@ pub record GoneTo (n k : ℕ) (files : Files) : Type 0 where
   pub front : List (Position × Entry)
   pub is : log_of n files ≡ in_front front (log_of k files)
 
-in_front_none : (r : Standing) → r ≡ in_front [] r
+pub in_front_none : (r : Standing) → r ≡ in_front [] r
 in_front_none (Ok found) = refl
 in_front_none (Err e) = refl
 

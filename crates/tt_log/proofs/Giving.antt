@@ -118,7 +118,7 @@ new_ahead : (s : Scan) (log : Log) (now : Files) → IsWhole log now → s.begun
 new_ahead s log now w begun all offset low high top =
     let f = is_found (log_of log.first now) log.number log.base w.0 w.1 in
     start_ahead s now begun all offset (omega (arith, high, top))
-    ∙ log_later log.first s.file log.number now f.found low high top f.is f.at ∙ ap (since s.file) (sym f.is)
+    ∙ log_later log.first s.file log.number now f.found low high f.is f.at ∙ ap (since s.file) (sym f.is)
 
 since_end : (k : ℕ) (r : Standing) → IsOk r → (IsOk (since k r)) × (walk_end (since k r) ≡ walk_end r)
 since_end k (Ok found) is = (refl, refl)

@@ -6,7 +6,6 @@ pub mod Forcing
 pub mod Turning
 pub mod Adding
 pub mod Trails
-pub mod Later
 pub mod Making
 pub mod Purge
 pub mod BodyParts
@@ -16,6 +15,7 @@ pub mod Fitting
 pub mod Skips
 pub mod Reaching
 pub mod Following
+pub mod Taking
 pub mod Opening
 pub mod Scanning
 pub mod Giving

@@ -19,7 +19,7 @@ use Rattle.tt_record.specs.Entries.{IsBody}
 use Rattle.tt_log.specs.Lengths.{total}
 use Rattle.tt_log.specs.declared.log.Log.{Log}
 use Rattle.tt_log.proofs.Forcing.{IsFound}
-use Rattle.tt_log.proofs.Later.{later}
+use Rattle.tt_log.specs.Later.{log_from_later}
 
 -- the files of a range as they were, the others as given
 abbrev put_range : ℕ → ℕ → Files → Files → Files
@@ -60,9 +60,8 @@ pub log_above : (k : ℕ) (files others : Files) → ((j : ℕ) → k ≤ j → 
 unfolding log_of
 log_above k files others same = walk_above (1000000 - k) k files others same
 
-pub log_later : (first k m : ℕ) (files : Files) (found : Found) → first ≤ k → k ≤ m → m < 1000000 → log_of first files ≡ Ok found → found.end.file ≡ m → log_of k files ≡ since k (Ok found)
-unfolding log_of
-log_later first k m files found low high top is at = later (1000000 - first) first k (1000000 - k) files found low (omega (arith, high, at)) (omega (arith, low, high, top)) is
+pub log_later : (first k m : ℕ) (files : Files) (found : Found) → first ≤ k → k ≤ m → log_of first files ≡ Ok found → found.end.file ≡ m → log_of k files ≡ since k (Ok found)
+log_later first k m files found low high is at = log_from_later first k files found low (omega (arith, high, at)) is
 
 -- what is left of a log from a later file on
 pub record Shrunk (first k : ℕ) (old new : Files) (may may' : Outcomes) : Type 0 where
@@ -71,12 +70,12 @@ pub record Shrunk (first k : ℕ) (old new : Files) (may may' : Outcomes) : Type
 
 pub below_gone : (first k m base file : ℕ) (old new : Files) (may may' : Outcomes) → IsFound (log_of first old) m base → first ≤ k → file ≤ k → k ≤ m → m < 1000000 → ((n : Name) → may n (old n)) → OnlyBetween 0 file old new may may' → Shrunk first k old new may may'
 below_gone first k m base file old new may may' f low above high top reads only = record {
-  now = log_above k old new (λ j le. only.reads (LogFile j) (out_high 0 file j (omega (arith, le, above)))) ∙ log_later first k m old f.found low high top f.is f.at ∙ ap (since k) (sym f.is);
+  now = log_above k old new (λ j le. only.reads (LogFile j) (out_high 0 file j (omega (arith, le, above)))) ∙ log_later first k m old f.found low high f.is f.at ∙ ap (since k) (sym f.is);
   crash = λ kept files left.
       let files' = put_range 0 file old files in
       let former : log_of first files' ≡ Ok f.found = kept files' (range_left 0 file old files may reads (λ n out. only.crash n out (files n) (left n))) ∙ f.is in
       log_above k files' files (λ j le. sym (range_apart 0 file old files (LogFile j) (out_high 0 file j (omega (arith, le, above)))))
-      ∙ log_later first k m files' f.found low high top former f.at ∙ ap (since k) (sym f.is);
+      ∙ log_later first k m files' f.found low high former f.at ∙ ap (since k) (sym f.is);
 }
 
 since_found : (k m base : ℕ) (r : Result Found LogRefusal) → IsFound r m base → IsFound (since k r) m base

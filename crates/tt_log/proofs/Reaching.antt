@@ -11,7 +11,7 @@ use Rattle.tt_log.specs.declared.batch.Batch.TheVariants.{Closed, Turned, Entrie
 use Rattle.tt_log.specs.declared.file.FileEnd.{FileEnd}
 use Rattle.tt_log.specs.declared.file.Reached.{Reached}
 use Rattle.tt_log.specs.declared.file.Went.{Went}
-use Rattle.tt_log.specs.declared.file.Went.TheVariants.{Ends}
+use Rattle.tt_log.specs.declared.file.Went.TheVariants.{On, Ends}
 use Rattle.tt_log.specs.declared.refusal.LogRefusal.{LogRefusal}
 use Rattle.tt_log.specs.Walk.{Part, before, file_read}
 use Rattle.tt_log.specs.Rests.{rest_read, IsHeaded, IsRefused, IsBatch, IsPlain}
@@ -53,7 +53,7 @@ ended wanted n file at end turned r rest total_is turned_is place = record {
   place = place ∙ ap (λ (b : Bool). b || (at.offset == wanted)) r.starts ∙ ap (λ (k : ℕ). starts_at wanted 0 r.es || (k == wanted)) (sym r.long);
 }
 
-before_twice : (es fs : List Entry) (part : Part) → before es (before fs part) ≡ before (es ++ fs) part
+pub before_twice : (es fs : List Entry) (part : Part) → before es (before fs part) ≡ before (es ++ fs) part
 before_twice es fs (Ok part) = ap (λ (l : List Entry). Ok (l, part.1)) (sym (append_assoc es fs part.0))
 before_twice es fs (Err e) = refl
 
@@ -73,7 +73,7 @@ refused_before wanted n file at e r (inl failed) = inl failed
 refused_before wanted n file at e r (inr (inl wanting)) = inr (inl wanting)
 refused_before wanted n file at e r (inr (inr is)) = inr (inr (r.is ∙ ap (before r.es) is))
 
-none_before : (part : Part) → part ≡ before [] part
+pub none_before : (part : Part) → part ≡ before [] part
 none_before (Ok part) = refl
 none_before (Err e) = refl
 
@@ -92,6 +92,12 @@ pub is_plain : (n gate offset : ℕ) (file : Option (List ℕ)) (r : Answer) (b 
 is_plain n gate offset file r b body says is one =
     let P : Answer → Type 0 = λ q. IsBatch n gate offset file q in
     subst P (is ∙ ap (λ (k : Batch). Ok k) one) says
+
+pub gone_on : (wanted n : ℕ) (file other : Option (List ℕ)) (r : Result Went LogRefusal) (w : Went) (next : Reached) → HasGone wanted n file r → r ≡ Ok w → w ≡ On next → file ≡ other → IsReached wanted n other next
+gone_on wanted n file other r w next says is one same =
+    let P : Result Went LogRefusal → Type 0 = λ q. HasGone wanted n file q in
+    let h : IsReached wanted n file next = subst P (is ∙ ap (λ (k : Went). Ok k) one) says in
+    subst (λ o. IsReached wanted n o next) same h
 
 pub gone_ends : (wanted n : ℕ) (file other : Option (List ℕ)) (r : Result Went LogRefusal) (w : Went) (end : FileEnd) → HasGone wanted n file r → r ≡ Ok w → w ≡ Ends end → file ≡ other → HasEnd wanted (rest_read n 16 0 other) end
 gone_ends wanted n file other r w end says is one same =

@@ -20,7 +20,8 @@ use Rattle.tt_log.specs.Logs.{or_none, entries_in}
 use Rattle.tt_log.specs.Scans.{waiting, gate_offset, part_left, joined_from, ahead, IsGoing}
 use Rattle.tt_log.proofs.Sums.{total_more}
 use Rattle.tt_log.proofs.Heads.{file_headed}
-use Rattle.tt_log.proofs.Walks.{found_ok, placed_more, in_front_twice}
+use Rattle.tt_log.specs.Later.{found_ok}
+use Rattle.tt_log.proofs.Walks.{placed_more, in_front_twice}
 use Rattle.tt_log.proofs.Crash.{Outcomes}
 use Rattle.tt_log.proofs.Following.{Standing, log_step}
 

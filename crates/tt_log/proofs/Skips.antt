@@ -18,11 +18,11 @@ pub record Skipped (bytes : List ℕ) (wanted at : ℕ) : Type 0 where
   pub is : entries_of bytes ≡ joined es (entries_of (drop at bytes))
   pub low : (gs : List Entry) → starts_at wanted 0 (es ++ gs) ≡ starts_at wanted at gs
 
-joined_none : (o : Option (List Entry)) → o ≡ joined [] o
+pub joined_none : (o : Option (List Entry)) → o ≡ joined [] o
 joined_none None = refl
 joined_none (Some fs) = refl
 
-joined_behind : (es : List Entry) (e : Entry) (o : Option (List Entry)) → joined es (behind e o) ≡ joined (es ++ e ∷ []) o
+pub joined_behind : (es : List Entry) (e : Entry) (o : Option (List Entry)) → joined es (behind e o) ≡ joined (es ++ e ∷ []) o
 joined_behind es e None = refl
 joined_behind es e (Some fs) = ap (λ (l : List Entry). Some l) (sym (append_assoc es (e ∷ []) fs))
 
@@ -66,12 +66,12 @@ starts_moved k at base (e ∷ es) =
         by_case (inr apart) = not_eq a b apart ∙ sym (not_eq c d (λ same. apart (omega (arith, is, same))))
 
 -- the rest of a body of entries
-record Rest (es : List Entry) (o : Option (List Entry)) (all : List Entry) : Type 0 where
+pub record Rest (es : List Entry) (o : Option (List Entry)) (all : List Entry) : Type 0 where
   pub gs : List Entry
   pub is : o ≡ Some gs
   pub whole : all ≡ es ++ gs
 
-rest_of : (es all : List Entry) (o : Option (List Entry)) → joined es o ≡ Some all → Rest es o all
+pub rest_of : (es all : List Entry) (o : Option (List Entry)) → joined es o ≡ Some all → Rest es o all
 rest_of es all None is = cc
 rest_of es all (Some gs) is = record { gs = gs; is = refl; whole = let same : es ++ gs ≡ all = cc in sym same }
 

@@ -25,6 +25,6 @@ is_there k None more whole = absurd (let bad = subst (λ (p : Part). IsOk (on_pa
 pub file_there : (log : Log) (now : Files) (k : ℕ) → IsWhole log now → log.first ≤ k → k ≤ log.number → log.number < 1000000 → IsSome (now (LogFile k))
 file_there log now k w low high top =
     let f = is_found (log_of log.first now) log.number log.base w.0 w.1 in
-    let later : log_of k now ≡ since k (log_of log.first now) = log_later log.first k log.number now f.found low high top f.is f.at ∙ ap (since k) (sym f.is) in
+    let later : log_of k now ≡ since k (log_of log.first now) = log_later log.first k log.number now f.found low high f.is f.at ∙ ap (since k) (sym f.is) in
     let whole : IsOk (log_of k now) = subst (λ (r : Standing). IsOk r) (sym later) (still_ok k (log_of log.first now) w.0) in
     is_there k (now (LogFile k)) (log_of (k + 1) now) (subst (λ (r : Standing). IsOk r) (log_step k now (omega (arith, high, top))) whole)

@@ -10,12 +10,7 @@ use Rattle.tt_log.proofs.Sums.{total_more}
 use Rattle.tt_log.specs.declared.refusal.LogRefusal.{LogRefusal}
 use Rattle.tt_log.specs.Walk.{Files, Part, file_read, Found, placed, in_front, on_part, walk, with_more, turned}
 use Rattle.tt_record.specs.Places.{position}
-
-abbrev pub found_ok : Found → Result Found LogRefusal
-found_ok found = Ok found
-
-pub same_found : (x y : Found) → found_ok x ≡ found_ok y → x ≡ y
-same_found x y is = cc
+use Rattle.tt_log.specs.Later.{found_ok, same_found}
 
 -- The walk up to its last file, and what is read there. Files that agree up to there lead to the same place.
 pub record LastOf (most n : ℕ) (files : Files) (found : Found) : Type 1 where

@@ -6,5 +6,7 @@ pub mod Rests
 pub mod Fits
 pub mod Starts
 pub mod Ends
+pub mod Takes
 pub mod Scans
+pub mod Later
 pub mod Laws

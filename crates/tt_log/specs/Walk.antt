@@ -6,7 +6,7 @@ use Rattle.tt_disk.specs.declared.volume.Name.TheVariants.{Log}
 use Rattle.tt_gate.specs.declared.gate.GateRefusal.{GateRefusal}
 use Rattle.tt_gate.specs.declared.gate.GateRefusal.TheVariants.{Absent, BadHeader, BadBatch as GateBad, Failed as GateFailed}
 use Rattle.tt_gate.specs.Gate.{gated, whole_bodies}
-use Rattle.tt_value.specs.Words.{be}
+use Rattle.tt_value.specs.Words.{big_endian}
 use Rattle.tt_record.specs.declared.entry.Entry.{Entry}
 use Rattle.tt_record.specs.declared.entry.Entry.TheVariants.{Change, Commit, Abort, Mark, Switch}
 use Rattle.tt_value.specs.declared.position.Position.{Position}
@@ -88,7 +88,7 @@ bodies_read n at offset (body ∷ bodies) end =
     batch_read n at (at + 9 + length body) offset (entries_of body) (is_last bodies) (bodies_read n (at + 9 + length body) (offset_behind offset (entries_of body)) bodies end)
 
 unfoldable pub log_header : ℕ → List ℕ
-log_header n = 84 ∷ 84 ∷ 76 ∷ 71 ∷ 0 ∷ 0 ∷ 0 ∷ 1 ∷ (be 4 n ++ (0 ∷ 0 ∷ 0 ∷ 0 ∷ []))
+log_header n = 84 ∷ 84 ∷ 76 ∷ 71 ∷ 0 ∷ 0 ∷ 0 ∷ 1 ∷ (big_endian 4 n ++ (0 ∷ 0 ∷ 0 ∷ 0 ∷ []))
 
 abbrev pub same_bytes : List ℕ → List ℕ → Bool
 same_bytes [] [] = true

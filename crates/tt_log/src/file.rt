@@ -1,5 +1,5 @@
 // The entries of a log file, from its first gate to its last.
-ghost use Rattle.std.specs.Prelude.{◌≡◌, ◌⊎◌, ◌<◌, ◌≤◌, ◌+◌, ◌^◌, ◌||◌, ◌==◌, List, length, Some, IfOk, IfErr, IsErrOf};
+ghost use Rattle.std.specs.Prelude.{◌≡◌, ◌⊎◌, ◌<◌, ◌≤◌, ◌+◌, ◌^◌, ◌||◌, ◌==◌, List, length, Some, IfOk, IfErr, IsErrOf, OnOk};
 ghost use Rattle.tt_disk.specs.declared.volume.Name.TheVariants.{Log as LogFile};
 ghost use Rattle.tt_disk.specs.Causes.{RoseWhere};
 ghost use Rattle.tt_disk.specs.Volume.{Keeps};
@@ -8,13 +8,15 @@ ghost use Rattle.tt_record.specs.Reading.{entries_of};
 ghost use Rattle.tt_log.specs.Lengths.{total};
 ghost use Rattle.tt_log.specs.Starts.{starts_at};
 ghost use Rattle.tt_log.specs.Rests.{IsHeaded, rest_read};
-ghost use Rattle.tt_log.specs.Walk.{file_read, file_most};
+ghost use Rattle.tt_log.specs.Walk.{file_read, file_most, placed};
+ghost use Rattle.tt_log.specs.Takes.{Takes, TakesOn, TakesPart};
 ghost use Rattle.tt_log.specs.Ends.{IsFileEnd, IsReached, IsInRange, HasGone, GoesWithin};
 ghost use Rattle.tt_log.specs.declared.refusal.LogRefusal.TheVariants.{Failed};
 
 use crate::batch::{Batch, check_header, read_batch};
 use crate::refusal::LogRefusal;
 use crate::starts::body_starts;
+use crate::taker::{Taker, give_body};
 use std::alloc::Global;
 use tt_disk::Volume;
 
@@ -44,16 +46,28 @@ pub(crate) enum Went {
     Ends(FileEnd),
 }
 
-// Goes on behind a batch of these bytes.
-fn go_behind(alloc: Global, at: Reached, body: &[u8], wanted: u32) -> Result<Reached, LogRefusal>
+// Hands over the entries of a batch of these bytes, and goes on behind it.
+fn go_behind<T: Taker>(
+    alloc: Global,
+    number: u32,
+    wanted: u32,
+    at: Reached,
+    body: &[u8],
+    taker: &mut T,
+) -> Result<Reached, LogRefusal>
     requires inside { at.gate + 9 + length body.now < 2 ^ 62 }
     requires room { at.offset + length body.now ≤ file_most }
     ensures gate { IfOk result (λ next. next.gate ≡ at.gate + 9 + length body.now) }
     ensures offset { IfOk result (λ next. next.offset ≡ at.offset + length body.now) }
     ensures starts { IfOk result (λ next. (es : List Entry) → entries_of body.now ≡ Some es → total es ≡ length body.now
         → next.starts ≡ (at.starts || starts_at wanted at.offset es)) }
+    ensures given { (es : List Entry) → entries_of body.now ≡ Some es
+        → OnOk result (Takes (T.took taker.old) (T.took taker.new) (placed number at.offset es)) }
     ensures refused { IfErr result (λ e. e ≡ LogRefusal.NoMemory) }
 {
+    if let Err(_) = give_body(alloc, body, number, at.offset, taker) {
+        return Err(LogRefusal::NoMemory);
+    }
     match body_starts(alloc, body, at.offset, wanted) {
         Ok(starts) => Ok(Reached {
             gate: at.gate + 9 + body.len() as u64,
@@ -77,12 +91,13 @@ fn end_at(at: Reached, wanted: u32, turned: bool) -> FileEnd
 }
 
 // Reads one batch more.
-fn go_on<V: Volume>(
+fn go_on<V: Volume, T: Taker>(
     alloc: Global,
     volume: &mut V,
     number: u32,
     wanted: u32,
     at: Reached,
+    taker: &mut T,
 ) -> Result<Went, LogRefusal>
     requires headed { V.told → IsHeaded number (V.now volume.old (LogFile number)) }
     requires gate { 0 < at.gate }
@@ -90,13 +105,15 @@ fn go_on<V: Volume>(
     requires room { at.offset ≤ file_most }
     ensures exact { V.told → HasGone wanted number (V.now volume.old (LogFile number)) result }
     ensures within { IfOk result (λ went. GoesWithin number at.gate went) }
+    ensures given { V.told → TakesOn number (T.took taker.old) (T.took taker.new) at
+        (V.now volume.old (LogFile number)) result }
     ensures keeps { V.told → Keeps (V.now volume.old) (V.now volume.new) (V.may volume.old) (V.may volume.new) }
     ensures cause { RoseWhere (IsErrOf result Failed) (V.faults volume.old) (V.faults volume.new) }
 {
     match read_batch(alloc, volume, number, at.gate, at.offset) {
         Ok(Batch::Closed) => Ok(Went::Ends(end_at(at, wanted, false))),
         Ok(Batch::Turned) => Ok(Went::Ends(end_at(at, wanted, true))),
-        Ok(Batch::Entries { body }) => match go_behind(alloc, at, &body, wanted) {
+        Ok(Batch::Entries { body }) => match go_behind(alloc, number, wanted, at, &body, taker) {
             Ok(next) => Ok(Went::On(next)),
             Err(refusal) => Err(refusal),
         },
@@ -105,14 +122,17 @@ fn go_on<V: Volume>(
 }
 
 // Reads the batches, from the first gate on.
-fn read_batches<V: Volume>(
+fn read_batches<V: Volume, T: Taker>(
     alloc: Global,
     volume: &mut V,
     number: u32,
     wanted: u32,
+    taker: &mut T,
 ) -> Result<FileEnd, LogRefusal>
     requires headed { V.told → IsHeaded number (V.now volume.old (LogFile number)) }
     ensures exact { V.told → IsFileEnd wanted (rest_read number 16 0 (V.now volume.old (LogFile number))) result }
+    ensures given { V.told → OnOk result (TakesPart number (T.took taker.old) (T.took taker.new)
+        (rest_read number 16 0 (V.now volume.old (LogFile number)))) }
     ensures within { IfOk result (λ end. IsInRange number end) }
     ensures keeps { V.told → Keeps (V.now volume.old) (V.now volume.new) (V.may volume.old) (V.may volume.new) }
     ensures cause { RoseWhere (IsErrOf result Failed) (V.faults volume.old) (V.faults volume.new) }
@@ -123,7 +143,7 @@ fn read_batches<V: Volume>(
         starts: false,
     };
     'batches: loop {
-        match go_on(alloc, volume, number, wanted, at) {
+        match go_on(alloc, volume, number, wanted, at, taker) {
             Ok(Went::On(next)) => at = next,
             Ok(Went::Ends(end)) => return Ok(end),
             Err(refusal) => return Err(refusal),
@@ -131,20 +151,23 @@ fn read_batches<V: Volume>(
     }
 }
 
-// Reads a file, and whether an offset is the start of one of its entries or their end.
-pub(crate) fn read_file<V: Volume>(
+// Reads a file, hands over its entries, and finds whether an offset is the start of one of them or their end.
+pub(crate) fn read_file<V: Volume, T: Taker>(
     alloc: Global,
     volume: &mut V,
     number: u32,
     wanted: u32,
+    taker: &mut T,
 ) -> Result<FileEnd, LogRefusal>
     ensures exact { V.told → IsFileEnd wanted (file_read number (V.now volume.old (LogFile number))) result }
+    ensures given { V.told → OnOk result (TakesPart number (T.took taker.old) (T.took taker.new)
+        (file_read number (V.now volume.old (LogFile number)))) }
     ensures within { IfOk result (λ end. IsInRange number end) }
     ensures keeps { V.told → Keeps (V.now volume.old) (V.now volume.new) (V.may volume.old) (V.may volume.new) }
     ensures cause { RoseWhere (IsErrOf result Failed) (V.faults volume.old) (V.faults volume.new) }
 {
     match check_header(volume, number) {
-        Ok(()) => read_batches(alloc, volume, number, wanted),
+        Ok(()) => read_batches(alloc, volume, number, wanted, taker),
         Err(refusal) => Err(refusal),
     }
 }

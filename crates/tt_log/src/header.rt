@@ -2,7 +2,7 @@ ghost use Rattle.std.specs.Prelude.{◌≡◌};
 ghost use Rattle.tt_log.specs.Walk.{log_header};
 
 // The header of a log file.
-#[tactic(auto, unfolding(tt_value::specs::Words::be, crate::specs::Walk::log_header))]
+#[tactic(auto, unfolding(tt_value::specs::Words::big_endian, crate::specs::Walk::log_header))]
 pub(crate) fn header(number: u32) -> [u8; 16]
     ensures { result ≡ log_header number }
 {

@@ -12,6 +12,7 @@ mod removal;
 mod scan;
 mod start;
 mod starts;
+mod taker;
 #[cfg(test)]
 mod tests;
 
@@ -19,3 +20,4 @@ pub use batch::FILE_MOST;
 pub use log::Log;
 pub use refusal::LogRefusal;
 pub use scan::Scan;
+pub use taker::Taker;

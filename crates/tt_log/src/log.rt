@@ -15,6 +15,7 @@ use crate::refusal::LogRefusal;
 use crate::removal::remove_logs;
 use crate::scan::Scan;
 use crate::start::{find_entries, open_last};
+use crate::taker::{Dropper, Taker};
 use std::alloc::Global;
 use tt_disk::{Failed, Name, Volume};
 use tt_gate::GateFile;
@@ -83,12 +84,13 @@ impl Log {
     ghost use Rattle.tt_disk.specs.Volume.{Keeps};
     ghost use Rattle.tt_gate.specs.Standing.{LeavesAtMost};
     ghost use Rattle.tt_log.specs.Starts.{started};
+    ghost use Rattle.tt_log.specs.Takes.{Takes};
     ghost use Rattle.tt_log.specs.Scans.{IsScanning, left};
     ghost use Rattle.tt_log.specs.Fits.{all_placed};
     ghost use Rattle.tt_log.specs.Walk.{Files, Found, log_of, is_from, with_more, turned, is_switch, is_since, nothing};
     ghost use Rattle.std.specs.Prelude.{max, filter, ℕ, None, Ok, ◌^◌};
     ghost use Rattle.tt_record.specs.Places.{place_of, end_of};
-    ghost use Rattle.tt_log.specs.Logs.{trail_of, forced_of, moves, room_made, unforced, waiting_bytes, write_of};
+    ghost use Rattle.tt_log.specs.Logs.{entries_in, trail_of, forced_of, moves, room_made, unforced, waiting_bytes, write_of};
     ghost use Rattle.tt_log.specs.Logs.{MayLeave, IsOpen, IsWhole, LeavesThis, LeavesEither, LeavesTurned};
     ghost use Rattle.tt_log.specs.Logs.{LeavesForced, LeavesForcedOrAll, ForcedBeforeNextFile, GoneInOrder};
     ghost use Rattle.tt_log.specs.Logs.{IsUntouched, OnlyTwo, OnlyBetween};
@@ -142,7 +144,46 @@ impl Log {
         ensures keeps { V.told → Keeps (V.now volume.old) (V.now volume.new) (V.may volume.old) (V.may volume.new) }
         ensures cause { RoseWhere (IsErrOf result LogRefusal.Failed) (V.faults volume.old) (V.faults volume.new) }
     {
-        let end = match find_entries(alloc, volume, from) {
+        Log::start_giving(
+            alloc,
+            volume,
+            from,
+            log_file_size,
+            log_buf_size,
+            &mut Dropper,
+        )
+    }
+
+    /// The same, and each entry from the first one of that file on is handed to a taker. So a file is read once.
+    pub fn start_giving<V: Volume, T: Taker>(
+        alloc: Global,
+        volume: &mut V,
+        from: Position,
+        log_file_size: u32,
+        log_buf_size: u32,
+        taker: &mut T,
+    ) -> Result<Log, LogRefusal>
+        requires file_size { (8192 ≤ log_file_size) × (log_file_size ≤ 67108864) }
+        requires buffer_size { (4096 ≤ log_buf_size) × (log_buf_size ≤ 1048576) }
+        ensures open { V.told → IfOk result (λ log. IsOpen log (V.now volume.new) (V.may volume.new)) }
+        ensures found { V.told → IfOk result (λ log. log_of log.first (V.now volume.new) ≡ started from (V.now volume.old)) }
+        ensures taken { V.told → OnOk result (Takes (T.took taker.old) (T.took taker.new)
+            (entries_in (log_of from.file (V.now volume.old)))) }
+        ensures refused { V.told → IfErr result (λ e. (e ≡ LogRefusal.Failed) ⊎ ((e ≡ LogRefusal.NoMemory)
+            ⊎ (started from (V.now volume.old) ≡ Err e))) }
+
+        // Where every crash could leave the log as it reads, it still does.
+        ensures kept { V.told → LeavesThis from.file (log_of from.file (V.now volume.old)) (V.may volume.old)
+            → IfOk result (λ log. LeavesForced log (V.now volume.new) (V.may volume.new)) }
+        ensures first { IfOk result (λ log. log.first ≡ from.file) }
+        ensures empty { IfOk result (λ log. unforced log ≡ []) }
+        ensures waiting { IfOk result (λ log. waiting_bytes log ≡ 0) }
+        ensures force { IfOk result (λ log. log.force ≡ write_of log) }
+        ensures sizes { IfOk result (λ log. (log.file_size ≡ log_file_size) × (length log.buffer.items ≡ log_buf_size)) }
+        ensures keeps { V.told → Keeps (V.now volume.old) (V.now volume.new) (V.may volume.old) (V.may volume.new) }
+        ensures cause { RoseWhere (IsErrOf result LogRefusal.Failed) (V.faults volume.old) (V.faults volume.new) }
+    {
+        let end = match find_entries(alloc, volume, from, taker) {
             Ok(end) => end,
             Err(refusal) => return Err(refusal),
         };

@@ -6,6 +6,8 @@ ghost use Rattle.tt_disk.specs.Volume.{Keeps};
 ghost use Rattle.tt_gate.specs.Standing.{IsReady};
 ghost use Rattle.tt_log.specs.Walk.{file_read, file_most, log_of};
 ghost use Rattle.tt_log.specs.Starts.{started};
+ghost use Rattle.tt_log.specs.Takes.{Takes, TakesLog};
+ghost use Rattle.tt_log.specs.Logs.{entries_in};
 ghost use Rattle.tt_log.specs.Ends.{IsEnd, HasEnd, IsInRange, IsFollowed, EndsIn};
 ghost use Rattle.tt_log.specs.declared.refusal.LogRefusal.TheVariants.{Failed};
 
@@ -13,23 +15,27 @@ use crate::batch::refusal_of;
 use crate::file::{FileEnd, read_file};
 use crate::header::header;
 use crate::refusal::LogRefusal;
+use crate::taker::Taker;
 use std::alloc::Global;
 use tt_disk::{Name, Volume};
 use tt_gate::GateFile;
 use tt_record::LOG_FILES_END;
 use tt_value::Position;
 
-// Goes on from a file whose end is known to the last one, and answers where its entries end.
-fn follow<V: Volume>(
+// Goes on from a file whose end is known to the last one, hands over the entries behind that file, and answers where
+// they end.
+fn follow<V: Volume, T: Taker>(
     alloc: Global,
     volume: &mut V,
     number: u32,
     end: FileEnd,
+    taker: &mut T,
 ) -> Result<Position, LogRefusal>
     requires number { number < 1000000 }
     requires range { IsInRange number end }
     requires end { V.told → IsEnd (file_read number (V.now volume.old (LogFile number))) end }
     ensures exact { V.told → IsFollowed (log_of number (V.now volume.old)) result }
+    ensures given { V.told → OnOk result (TakesLog number (T.took taker.old) (T.took taker.new) (V.now volume.old)) }
     ensures within { IfOk result (λ at. (number ≤ at.file) × (at.file < 1000000) × (at.offset ≤ file_most)) }
     ensures keeps { V.told → Keeps (V.now volume.old) (V.now volume.new) (V.may volume.old) (V.may volume.new) }
     ensures cause { RoseWhere (IsErrOf result Failed) (V.faults volume.old) (V.faults volume.new) }
@@ -37,7 +43,7 @@ fn follow<V: Volume>(
     let mut file = number;
     let mut end = end;
     'files: while end.turned {
-        let next = match read_file(alloc, volume, file + 1, 0) {
+        let next = match read_file(alloc, volume, file + 1, 0, taker) {
             Ok(next) => next,
             Err(refusal) => return Err(refusal),
         };
@@ -51,22 +57,24 @@ fn follow<V: Volume>(
 }
 
 // The same from the file of a position on, which is known too.
-fn follow_from<V: Volume>(
+fn follow_from<V: Volume, T: Taker>(
     alloc: Global,
     volume: &mut V,
     from: Position,
     first: FileEnd,
+    taker: &mut T,
 ) -> Result<Position, LogRefusal>
     requires number { from.file < 1000000 }
     requires range { IsInRange from.file first }
     requires end { V.told → HasEnd from.offset (file_read from.file (V.now volume.old (LogFile from.file))) first }
     ensures exact { V.told → IsFollowed (started from (V.now volume.old)) result }
     ensures same { V.told → OnOk result (started from (V.now volume.old) ≡ log_of from.file (V.now volume.old)) }
+    ensures given { V.told → OnOk result (TakesLog from.file (T.took taker.old) (T.took taker.new) (V.now volume.old)) }
     ensures within { IfOk result (λ at. (from.file ≤ at.file) × (at.file < 1000000) × (at.offset ≤ file_most)) }
     ensures keeps { V.told → Keeps (V.now volume.old) (V.now volume.new) (V.may volume.old) (V.may volume.new) }
     ensures cause { RoseWhere (IsErrOf result Failed) (V.faults volume.old) (V.faults volume.new) }
 {
-    match follow(alloc, volume, from.file, first) {
+    match follow(alloc, volume, from.file, first, taker) {
         Ok(at) => {
             if !first.is_place {
                 return Err(LogRefusal::BadBatch {
@@ -80,14 +88,17 @@ fn follow_from<V: Volume>(
     }
 }
 
-// Walks through the files from that of a position on, and answers where their entries end.
-pub(crate) fn find_entries<V: Volume>(
+// Walks through the files from that of a position on, hands over their entries, and answers where these end.
+pub(crate) fn find_entries<V: Volume, T: Taker>(
     alloc: Global,
     volume: &mut V,
     from: Position,
+    taker: &mut T,
 ) -> Result<Position, LogRefusal>
     ensures exact { V.told → IsFollowed (started from (V.now volume.old)) result }
     ensures same { V.told → OnOk result (started from (V.now volume.old) ≡ log_of from.file (V.now volume.old)) }
+    ensures given { V.told → OnOk result (Takes (T.took taker.old) (T.took taker.new)
+        (entries_in (log_of from.file (V.now volume.old)))) }
     ensures within { IfOk result (λ at. (from.file ≤ at.file) × (at.file < 1000000) × (at.offset ≤ file_most)) }
     ensures keeps { V.told → Keeps (V.now volume.old) (V.now volume.new) (V.may volume.old) (V.may volume.new) }
     ensures cause { RoseWhere (IsErrOf result Failed) (V.faults volume.old) (V.faults volume.new) }
@@ -95,8 +106,8 @@ pub(crate) fn find_entries<V: Volume>(
     if from.file >= LOG_FILES_END {
         return Err(LogRefusal::Gap { file: from.file });
     }
-    match read_file(alloc, volume, from.file, from.offset) {
-        Ok(first) => follow_from(alloc, volume, from, first),
+    match read_file(alloc, volume, from.file, from.offset, taker) {
+        Ok(first) => follow_from(alloc, volume, from, first, taker),
         Err(refusal) => Err(refusal),
     }
 }

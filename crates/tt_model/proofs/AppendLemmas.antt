@@ -1,5 +1,5 @@
 -- What one more entry does to each part of a state.
-use Rattle.std.proofs.Common.{◌≡◌, ◌⊎◌, ℕ, suc, false, nat_eq, ◌≤◌, [], ◌∷◌, ◌++◌, length, max, Some, None, refl, ap, arith}
+use Rattle.std.proofs.Common.{◌≡◌, ◌⊎◌, ℕ, suc, false, nat_eq, ◌≤◌, [], ◌∷◌, ◌++◌, length, max, Option, Some, None, refl, ap, arith}
 use Rattle.std.proofs.lemmas.Bool.{cond-true, cond-false, eq-eqb}
 use Rattle.tt_value.specs.declared.value.Cell.{Cell}
 use Rattle.tt_value.specs.declared.position.Position.{Position}
@@ -9,7 +9,7 @@ use Rattle.tt_record.specs.Entries.{length_of}
 use Rattle.tt_record.specs.Places.{end_of}
 use Rattle.tt_model.specs.Trail.{Trail}
 use Rattle.tt_model.specs.Committed.{Cells, put, changed, changed_by, committed}
-use Rattle.tt_model.specs.Live.{live, live_after, with_number, without_number, next_number}
+use Rattle.tt_model.specs.Live.{live, live_after, with_number, without_number, view_of, next_number}
 use Rattle.tt_model.specs.Forced.{forced_for}
 use Rattle.tt_model.specs.State.{State, placed, trail, write_position, cells_of, view, live_in, next, with_entry}
 
@@ -47,6 +47,10 @@ pub live-Commit : (t : ℕ) (s : State) → live_in (with_entry (Commit t) s) �
 unfolding with_entry live
 live-Commit t s = refl
 
+pub live-Abort : (t : ℕ) (s : State) → live_in (with_entry (Abort t) s) ≡ without_number t (live_in s)
+unfolding with_entry live
+live-Abort t s = refl
+
 pub live-Mark : (s : State) → live_in (with_entry Mark s) ≡ []
 unfolding with_entry live
 live-Mark s = refl
@@ -62,6 +66,18 @@ live-behind_mark (e ∷ newer) older at = ap (λ us. live_after e.entry us) (liv
 pub next-Change : (t p : ℕ) (b a : Cell) (s : State) → next (with_entry (Change t p b a) s) ≡ max (suc t) (next s)
 unfolding with_entry next_number
 next-Change t p b a s = refl
+
+pub next-Commit : (t : ℕ) (s : State) → next (with_entry (Commit t) s) ≡ max (suc t) (next s)
+unfolding with_entry next_number
+next-Commit t s = refl
+
+pub next-Abort : (t : ℕ) (s : State) → next (with_entry (Abort t) s) ≡ max (suc t) (next s)
+unfolding with_entry next_number
+next-Abort t s = refl
+
+pub next-Mark : (s : State) → next (with_entry Mark s) ≡ next s
+unfolding with_entry next_number
+next-Mark s = omega (arith)
 
 -- Forced.
 pub forced-with_entry : (e : Entry) (s : State) →
@@ -112,3 +128,29 @@ pub cells-Commit_view : (session t : ℕ) (s : State) → s.own session ≡ Some
     cells_of (with_entry (Commit t) s) ≡ view session s
 unfolding with_entry committed
 cells-Commit_view session t s h = rw h refl
+
+-- An entry that is no Change leaves what is put over the cells.
+view-Commit_of : (o : Option ℕ) (t : ℕ) (at : Position) (es : Trail) (cells : Cells) → view_of o (record { at = at; entry = Commit t } ∷ es) cells ≡ view_of o es cells
+view-Commit_of None t at es cells = refl
+view-Commit_of (Some u) t at es cells = refl
+
+view-Abort_of : (o : Option ℕ) (t : ℕ) (at : Position) (es : Trail) (cells : Cells) → view_of o (record { at = at; entry = Abort t } ∷ es) cells ≡ view_of o es cells
+view-Abort_of None t at es cells = refl
+view-Abort_of (Some u) t at es cells = refl
+
+view-Mark_of : (o : Option ℕ) (at : Position) (es : Trail) (cells : Cells) → view_of o (record { at = at; entry = Mark } ∷ es) cells ≡ view_of o es cells
+view-Mark_of None at es cells = refl
+view-Mark_of (Some u) at es cells = refl
+
+-- The views behind a Commit, an Abort and a Mark.
+pub view-Commit : (session t : ℕ) (s : State) → view session (with_entry (Commit t) s) ≡ view_of (s.own session) s.entries (cells_of (with_entry (Commit t) s))
+unfolding with_entry
+view-Commit session t s = view-Commit_of (s.own session) t ((placed (Commit t) s).at) s.entries (cells_of (with_entry (Commit t) s))
+
+pub view-Abort : (session t : ℕ) (s : State) → view session (with_entry (Abort t) s) ≡ view session s
+unfolding with_entry committed
+view-Abort session t s = view-Abort_of (s.own session) t ((placed (Abort t) s).at) s.entries (cells_of s)
+
+pub view-Mark : (session : ℕ) (s : State) → view session (with_entry Mark s) ≡ view session s
+unfolding with_entry committed
+view-Mark session s = view-Mark_of (s.own session) ((placed Mark s).at) s.entries (cells_of s)

@@ -1,20 +1,20 @@
 -- Runs whose lines have conditions. The fold of conditions doesn't unfold outside its crate; so a run is computed from what its
--- conditions mean, and each condition's meaning is given by a law of its own.
+-- conditions mean, one after another, and each condition's meaning is given by a law of its own.
 use Rattle.std.proofs.Common.{◌≡◌, ℕ, Bool, List, [], ◌∷◌, filter, map, Option, Some, None, refl, ap, ◌∙◌}
 use Rattle.std.specs.Option.{option_or}
-use Rattle.tt_value.specs.Truths.{negated}
+use Rattle.tt_value.specs.Truths.{negated, both_of, either_of}
 use Rattle.tt_value.specs.declared.truth.Truth.{Truth}
 use Rattle.tt_value.specs.declared.value.Row.{Row}
 use Rattle.tt_value.specs.declared.value.Cell.TheVariants.{Empty}
 use Rattle.tt_value.specs.declared.refusal.Refusal.{Refusal}
 use Rattle.tt_value.specs.declared.refusal.Refusal.TheVariants.{NoTable, NoColumn, WrongType}
 use Rattle.tt_value.specs.declared.reply.Reply.{Reply}
-use Rattle.std.specs.Prelude.{not}
+use Rattle.std.specs.Prelude.{not, ◌&&◌}
 use Rattle.std.specs.List.{list_all}
 use Rattle.tt_parse.specs.declared.cond.Op.{Op}
 use Rattle.tt_parse.specs.declared.cond.Operand.{Operand}
 use Rattle.tt_parse.specs.declared.cond.Cond.{Cond, roll-Cond, fold-roll-Cond}
-use Rattle.tt_parse.specs.declared.cond.Cond.TheOpen.{Compare, Not}
+use Rattle.tt_parse.specs.declared.cond.Cond.TheOpen.{Compare, IsNull, Not, And, Or}
 use Rattle.tt_parse.specs.declared.command.SetItem.{SetItem}
 use Rattle.tt_parse.specs.declared.command.Items.{Items}
 use Rattle.tt_parse.specs.declared.command.OrderItem.{OrderItem}
@@ -23,7 +23,8 @@ use Rattle.tt_parse.specs.declared.command.Command.TheVariants.{Update, Delete, 
 use Rattle.tt_model.specs.Values.{is_yes}
 use Rattle.tt_model.specs.Tables.{Table, PlacedRow, in_order, table_named}
 use Rattle.tt_model.specs.Conditions.{truth, truth_at, has_columns, columns_at, has_kinds, kinds_at, is_column}
-use Rattle.tt_model.specs.State.{State, catalog}
+use Rattle.tt_model.specs.State.{State, catalog, write_position}
+use Rattle.tt_value.specs.declared.position.Position.{Position}
 use Rattle.tt_model.specs.Meaning.{Meant, Refuses, Makes, refused_if, first_of, unless, full, rows_seen, key_order, order_cmp, delete_row_refusal, sets_refusal, update_rows, makes, items_columns, sums_text, shown, delete_from, update_in, select_in, meant_by_delete, meant_by_update, meant_by_select}
 use Rattle.tt_model.specs.Checkpoint.{with_copies}
 use Rattle.tt_model.specs.Step.{Answered, line, stepped, statement, completion_after}
@@ -43,6 +44,11 @@ replies (l ∷ ls) s = let a = stepped (l.0) (l.1) s in (a.0) ∷ replies ls (a.
 abbrev pub after : List Line → State → State
 after [] s = s
 after (l ∷ ls) s = after ls ((stepped (l.0) (l.1) s).1)
+
+-- The positions at which lines leave the end of the log, one after another.
+abbrev pub ends_after : List Line → State → List Position
+ends_after [] s = []
+ends_after (l ∷ ls) s = let next = (stepped (l.0) (l.1) s).1 in write_position next ∷ ends_after ls next
 
 -- ---- what a condition means
 
@@ -81,6 +87,39 @@ means-negation cond =
     ∙ (ap (λ (g : Table → Bool). meaning_of (λ t row. negated (truth cond t row)) g (has_kinds (roll-Cond (Not cond)))) (fold-roll-Cond (Table → Bool) columns_at (Not cond))
     ∙ ap (meaning_of (λ t row. negated (truth cond t row)) (has_columns cond)) (fold-roll-Cond (Table → Bool) kinds_at (Not cond)))
 
+-- A test for Null.
+abbrev pub null_test : List ℕ → Bool → Meaning
+null_test column isnt = meaning_of (truth_at (IsNull column isnt)) (columns_at (IsNull column isnt)) (kinds_at (IsNull column isnt))
+
+pub means-null_test : (column : List ℕ) (isnt : Bool) → meaning (roll-Cond (IsNull column isnt)) ≡ null_test column isnt
+unfolding truth has_columns has_kinds
+means-null_test column isnt =
+    let cond : Cond = roll-Cond (IsNull column isnt) in
+    ap (λ (f : Table → Row → Truth). meaning_of f (has_columns cond) (has_kinds cond)) (fold-roll-Cond (Table → Row → Truth) truth_at (IsNull column isnt))
+    ∙ (ap (λ (g : Table → Bool). meaning_of (truth_at (IsNull column isnt)) g (has_kinds cond)) (fold-roll-Cond (Table → Bool) columns_at (IsNull column isnt))
+    ∙ ap (meaning_of (truth_at (IsNull column isnt)) (columns_at (IsNull column isnt))) (fold-roll-Cond (Table → Bool) kinds_at (IsNull column isnt)))
+
+-- Two conditions that both hold, and of which one does.
+abbrev pub conjunction : Meaning → Meaning → Meaning
+conjunction m n = meaning_of (λ t row. both_of (m.row_truth t row) (n.row_truth t row)) (λ t. m.columns t && n.columns t) (λ t. m.kinds t && n.kinds t)
+
+pub means-conjunction : (a b : Cond) → meaning (roll-Cond (And a b)) ≡ conjunction (meaning a) (meaning b)
+unfolding truth has_columns has_kinds
+means-conjunction a b =
+    ap (λ (f : Table → Row → Truth). meaning_of f (has_columns (roll-Cond (And a b))) (has_kinds (roll-Cond (And a b)))) (fold-roll-Cond (Table → Row → Truth) truth_at (And a b))
+    ∙ (ap (λ (g : Table → Bool). meaning_of (λ t row. both_of (truth a t row) (truth b t row)) g (has_kinds (roll-Cond (And a b)))) (fold-roll-Cond (Table → Bool) columns_at (And a b))
+    ∙ ap (meaning_of (λ t row. both_of (truth a t row) (truth b t row)) (λ t. has_columns a t && has_columns b t)) (fold-roll-Cond (Table → Bool) kinds_at (And a b)))
+
+abbrev pub disjunction : Meaning → Meaning → Meaning
+disjunction m n = meaning_of (λ t row. either_of (m.row_truth t row) (n.row_truth t row)) (λ t. m.columns t && n.columns t) (λ t. m.kinds t && n.kinds t)
+
+pub means-disjunction : (a b : Cond) → meaning (roll-Cond (Or a b)) ≡ disjunction (meaning a) (meaning b)
+unfolding truth has_columns has_kinds
+means-disjunction a b =
+    ap (λ (f : Table → Row → Truth). meaning_of f (has_columns (roll-Cond (Or a b))) (has_kinds (roll-Cond (Or a b)))) (fold-roll-Cond (Table → Row → Truth) truth_at (Or a b))
+    ∙ (ap (λ (g : Table → Bool). meaning_of (λ t row. either_of (truth a t row) (truth b t row)) g (has_kinds (roll-Cond (Or a b)))) (fold-roll-Cond (Table → Bool) columns_at (Or a b))
+    ∙ ap (meaning_of (λ t row. either_of (truth a t row) (truth b t row)) (λ t. has_columns a t && has_columns b t)) (fold-roll-Cond (Table → Bool) kinds_at (Or a b)))
+
 -- ---- lines with what their conditions mean
 
 pub data Told : Type 0 where
@@ -89,24 +128,54 @@ pub data Told : Type 0 where
   DeleteWhere : List ℕ → Meaning → Told
   SelectWhere : List ℕ → Items → Meaning → List OrderItem → Told
 
+-- The condition of a line, where it has one, and those of several lines, in their order.
+abbrev pub cond_of : Command → Option Cond
+cond_of (Update table sets cond) = cond
+cond_of (Delete table cond) = cond
+cond_of (Select table items cond order) = cond
+cond_of _ = None
+
+abbrev pub with_cond : Option Cond → List Cond → List Cond
+with_cond None conds = conds
+with_cond (Some cond) conds = cond ∷ conds
+
+abbrev pub conds_in : List Line → List Cond
+conds_in [] = []
+conds_in (l ∷ ls) = with_cond (cond_of (l.1)) (conds_in ls)
+
+-- A line whose condition means this.
+abbrev pub told_with : Command → Meaning → Told
+told_with (Update table sets cond) m = UpdateWhere table sets m
+told_with (Delete table cond) m = DeleteWhere table m
+told_with (Select table items cond order) m = SelectWhere table items m order
+told_with command m = Plain command
+
+abbrev pub told_where : Command → Option Cond → Told
+told_where command None = Plain command
+told_where command (Some cond) = told_with command (meaning cond)
+
 abbrev pub told : Command → Told
-told (Update table sets (Some cond)) = UpdateWhere table sets (meaning cond)
-told (Delete table (Some cond)) = DeleteWhere table (meaning cond)
-told (Select table items (Some cond) order) = SelectWhere table items (meaning cond) order
-told command = Plain command
+told command = told_where command (cond_of command)
 
 abbrev pub told_lines : List Line → List (ℕ × Told)
-told_lines lines = map (λ (l : Line). (l.0, told (l.1))) lines
+told_lines [] = []
+told_lines (l ∷ ls) = (l.0, told (l.1)) ∷ told_lines ls
 
--- The same, where each condition of an update means the first, of a delete the second, of a select the third.
-abbrev pub told_by : Meaning → Meaning → Meaning → Command → Told
-told_by u d r (Update table sets (Some cond)) = UpdateWhere table sets u
-told_by u d r (Delete table (Some cond)) = DeleteWhere table d
-told_by u d r (Select table items (Some cond) order) = SelectWhere table items r order
-told_by u d r command = Plain command
+-- The same with a list of meanings: each condition takes the next one.
+abbrev pub next_by : ℕ → Command → Option Cond → List Meaning → (List Meaning → List (ℕ × Told)) → List (ℕ × Told)
+next_by session command None ms rest = (session, Plain command) ∷ rest ms
+next_by session command (Some cond) [] rest = (session, Plain command) ∷ rest []
+next_by session command (Some cond) (m ∷ ms) rest = (session, told_with command m) ∷ rest ms
 
-abbrev pub lines_by : Meaning → Meaning → Meaning → List Line → List (ℕ × Told)
-lines_by u d r lines = map (λ (l : Line). (l.0, told_by u d r (l.1))) lines
+abbrev pub lines_by : List Meaning → List Line → List (ℕ × Told)
+lines_by ms [] = []
+lines_by ms (l ∷ ls) = next_by (l.0) (l.1) (cond_of (l.1)) ms (λ left. lines_by left ls)
+
+-- Each of these conditions means the one of the list that stands at its place.
+abbrev pub AreMeant : List Cond → List Meaning → Type 0
+AreMeant [] ms = Unit {0}
+AreMeant (cond ∷ conds) [] = ⊥
+AreMeant (cond ∷ conds) (m ∷ ms) = (meaning cond ≡ m) × AreMeant conds ms
 
 abbrev pub refusal_by : Meaning → Table → Option Refusal
 refusal_by m t = first_of (refused_if (not (m.columns t)) NoColumn ∷ refused_if (not (m.kinds t)) WrongType ∷ [])
@@ -156,6 +225,10 @@ abbrev pub after_told : List (ℕ × Told) → State → State
 after_told [] s = s
 after_told (l ∷ ls) s = after_told ls ((stepped_told (l.0) (l.1) s).1)
 
+abbrev pub ends_told : List (ℕ × Told) → State → List Position
+ends_told [] s = []
+ends_told (l ∷ ls) s = let next = (stepped_told (l.0) (l.1) s).1 in write_position next ∷ ends_told ls next
+
 -- ---- the same replies
 
 delete-told : (session : ℕ) (s : State) (cond : Cond) (o : Option Table) → delete_from session s (Some cond) o ≡ delete_by session s (meaning cond) o
@@ -191,6 +264,30 @@ pub after-told : (lines : List Line) (s : State) → after lines s ≡ after_tol
 after-told [] s = refl
 after-told (l ∷ ls) s = ap (λ (a : Answered). after ls (a.1)) (stepped-told (l.0) (l.1) s) ∙ after-told ls ((stepped_told (l.0) (told (l.1)) s).1)
 
--- A run of lines has the replies that are computed from what their conditions mean.
-pub replies-by : (u d r : Meaning) (lines : List Line) (s : State) → told_lines lines ≡ lines_by u d r lines → replies lines s ≡ replies_told (lines_by u d r lines) s
-replies-by u d r lines s same = replies-told lines s ∙ ap (λ (ls : List (ℕ × Told)). replies_told ls s) same
+ends-told : (lines : List Line) (s : State) → ends_after lines s ≡ ends_told (told_lines lines) s
+ends-told [] s = refl
+ends-told (l ∷ ls) s =
+    ap (λ (a : Answered). write_position (a.1) ∷ ends_after ls (a.1)) (stepped-told (l.0) (l.1) s)
+    ∙ ap (λ (ps : List Position). write_position ((stepped_told (l.0) (told (l.1)) s).1) ∷ ps) (ends-told ls ((stepped_told (l.0) (told (l.1)) s).1))
+
+lines_told : (session : ℕ) (command : Command) (o : Option Cond) (conds : List Cond) (ms : List Meaning) (lines : List (ℕ × Told)) (rest : List Meaning → List (ℕ × Told)) →
+    ((left : List Meaning) → AreMeant conds left → lines ≡ rest left) → AreMeant (with_cond o conds) ms → (session, told_where command o) ∷ lines ≡ next_by session command o ms rest
+lines_told session command None conds ms lines rest ih are = ap (λ (ls : List (ℕ × Told)). (session, Plain command) ∷ ls) (ih ms are)
+lines_told session command (Some cond) conds [] lines rest ih are = absurd are
+lines_told session command (Some cond) conds (m ∷ ms) lines rest ih are =
+    ap (λ (y : Meaning). (session, told_with command y) ∷ lines) (are.0)
+    ∙ ap (λ (ls : List (ℕ × Told)). (session, told_with command m) ∷ ls) (ih ms (are.1))
+
+lines-by : (lines : List Line) (ms : List Meaning) → AreMeant (conds_in lines) ms → told_lines lines ≡ lines_by ms lines
+lines-by [] ms are = refl
+lines-by (l ∷ ls) ms are = lines_told (l.0) (l.1) (cond_of (l.1)) (conds_in ls) ms (told_lines ls) (λ left. lines_by left ls) (lines-by ls) are
+
+-- Where the conditions mean these, a run has the replies, the state and the ends that are computed from them.
+pub replies-by : (ms : List Meaning) (lines : List Line) (s : State) → AreMeant (conds_in lines) ms → replies lines s ≡ replies_told (lines_by ms lines) s
+replies-by ms lines s are = replies-told lines s ∙ ap (λ (ls : List (ℕ × Told)). replies_told ls s) (lines-by lines ms are)
+
+pub after-by : (ms : List Meaning) (lines : List Line) (s : State) → AreMeant (conds_in lines) ms → after lines s ≡ after_told (lines_by ms lines) s
+after-by ms lines s are = after-told lines s ∙ ap (λ (ls : List (ℕ × Told)). after_told ls s) (lines-by lines ms are)
+
+pub ends-by : (ms : List Meaning) (lines : List Line) (s : State) → AreMeant (conds_in lines) ms → ends_after lines s ≡ ends_told (lines_by ms lines) s
+ends-by ms lines s are = ends-told lines s ∙ ap (λ (ls : List (ℕ × Told)). ends_told ls s) (lines-by lines ms are)

@@ -1,43 +1,33 @@
 -- What the definitions give for small runs, by computing. Each line is a session and its command. Where lines have conditions, the
 -- replies are computed from what these mean.
-use Rattle.std.proofs.Common.{◌≡◌, ℕ, zero, suc, nat_eq, nat_lt, if◌then◌else◌, take, drop, pos, Bool, true, false, List, [], ◌∷◌, ◌++◌, map, replicate, codes, Option, Some, None, refl, ap, ◌∙◌, Less, Greater, Equal}
+use Rattle.std.proofs.Common.{◌≡◌, ℕ, zero, suc, nat_lt, if◌then◌else◌, take, drop, pos, true, false, List, [], ◌∷◌, ◌++◌, map, codes, Option, Some, None, refl, ap, ◌∙◌, Less, Greater, Equal}
 use Rattle.tt_value.specs.Orders.{value_cmp, compared}
 use Rattle.tt_value.specs.Truths.{negated}
-use Rattle.tt_value.specs.Words.{be}
-use Rattle.tt_value.specs.declared.value.Value.{Value}
+use Rattle.tt_value.specs.Words.{big_endian}
 use Rattle.tt_value.specs.declared.value.Value.TheVariants.{Null, Int, Number, Text}
 use Rattle.tt_value.specs.declared.value.Row.{Row}
 use Rattle.tt_value.specs.declared.value.Cell.TheVariants.{Full}
-use Rattle.tt_value.specs.declared.value.ColumnType.{ColumnType}
-use Rattle.tt_value.specs.declared.value.ColumnType.TheVariants.{BigInt, Varchar, Number as NumberOf}
-use Rattle.tt_value.specs.declared.position.Position.{Position}
+use Rattle.tt_value.specs.declared.value.ColumnType.TheVariants.{BigInt, Varchar}
 use Rattle.tt_value.specs.declared.truth.Truth.{Truth}
 use Rattle.tt_value.specs.declared.refusal.Refusal.TheVariants.{TooWide, DuplicateKey, KeyUpdate, NotEmpty, LockConflict, PermFull, InTransaction, BookmarkBusy, TransactionOpen, OutOfRange, LogOut, NoIndex}
 use Rattle.tt_value.specs.declared.reply.Reply.{Reply}
 use Rattle.tt_value.specs.declared.reply.Reply.TheVariants.{Done, Changed, Rows, Checkpoint, Positions, Holds, Updates, Backup, Refused}
-use Rattle.tt_value.specs.declared.reply.Edit.TheVariants.{Insert as InsertOf}
-use Rattle.tt_value.specs.declared.reply.Update.{Update as UpdateGiven}
-use Rattle.tt_value.specs.declared.reply.Hold.{Hold}
-use Rattle.tt_value.specs.declared.reply.HoldKind.{HoldKind}
 use Rattle.tt_value.specs.declared.reply.HoldKind.TheVariants.{Checkpoint as OfCheckpoint, Transaction as OfTransaction}
-use Rattle.tt_parse.specs.declared.command.Command.{Command}
-use Rattle.tt_parse.specs.declared.command.Command.TheVariants.{CreateTable, DropTable, CreateIndex, DropIndex, Insert, Update, Delete, Select, Commit, Rollback, Flush, Ckpt, CkptBlocking, LogHolds, Bookmark, Backup as BackupLine, XlaCreate, XlaSubscribe, XlaUnsubscribe, XlaOpen, XlaNext, XlaAcknowledge}
+use Rattle.tt_parse.specs.declared.command.Command.TheVariants.{CreateTable, DropTable, CreateIndex, DropIndex, Insert, Update, Select, Commit, Rollback, Flush, Ckpt, CkptBlocking, LogHolds, Bookmark, Backup as BackupLine, XlaCreate, XlaSubscribe, XlaUnsubscribe, XlaOpen, XlaNext, XlaAcknowledge}
 use Rattle.tt_parse.specs.declared.command.BackupKind.TheVariants.{FullEnable, Incremental}
-use Rattle.tt_parse.specs.declared.command.ColumnText.{ColumnText}
 use Rattle.tt_parse.specs.declared.command.SetSource.TheVariants.{Literal}
-use Rattle.tt_parse.specs.declared.command.Items.TheVariants.{All, Columns, Sums}
+use Rattle.tt_parse.specs.declared.command.Items.TheVariants.{Columns, Sums}
 use Rattle.tt_parse.specs.declared.command.Aggregate.TheVariants.{Count, Sum}
 use Rattle.tt_parse.specs.declared.cond.Op.TheVariants.{Eq}
 use Rattle.tt_parse.specs.declared.cond.Operand.TheVariants.{Literal as OfLiteral}
 use Rattle.tt_parse.specs.declared.cond.Cond.{Cond, roll-Cond, fold-roll-Cond}
 use Rattle.tt_parse.specs.declared.cond.Cond.TheOpen.{Compare, Not}
-use Rattle.tt_set.specs.declared.settings.Settings.{Settings}
 use Rattle.tt_record.specs.Places.{position}
 use Rattle.tt_record.specs.declared.entry.Entry.{Entry}
 use Rattle.tt_record.specs.declared.entry.Entry.TheVariants.{Mark as MarkEntry, Commit as CommitEntry, Switch as SwitchEntry}
-use Rattle.tt_model.specs.Trail.{Trail, oldest, since, before}
-use Rattle.tt_model.specs.Committed.{Cells, no_cells, committed, current}
-use Rattle.tt_model.specs.Live.{live, in_use, next_number, numbers_from}
+use Rattle.tt_model.specs.Trail.{oldest, since, before}
+use Rattle.tt_model.specs.Committed.{Cells, committed, current}
+use Rattle.tt_model.specs.Live.{live, in_use, next_number}
 use Rattle.tt_model.specs.Values.{is_yes}
 use Rattle.tt_model.specs.Holders.{holder, other_holder}
 use Rattle.tt_model.specs.Forced.{forced_for}
@@ -52,115 +42,11 @@ use Rattle.tt_model.specs.Backups.{backup_refusal}
 use Rattle.tt_model.specs.Due.{due, open_after}
 use Rattle.tt_model.specs.Checkpoint.{with_copies, with_all_copies, with_completion, begin_checkpoint, completed}
 use Rattle.tt_model.specs.State.{State, trail, force_position, write_position, with_entry, all_forced, reversals}
-use Rattle.tt_model.specs.Step.{line, stepped}
+use Rattle.tt_model.specs.Step.{line}
 use Rattle.tt_model.specs.Run.{begun, ended, opened}
 use Rattle.tt_model.specs.Standing.{standing, log_of}
-use Rattle.tt_model.proofs.ConditionRuns.{Line, Meaning, Told, replies, after, comparison, means-comparison, negation, means-negation, meaning, told_lines, lines_by, replies_told, after_told, replies-by, after-told}
-
--- ---- how the runs are written
-
--- Whether each commit is durable, the size of a log file, the pages that may be filled, and the pages of a round.
-abbrev settings_of : Bool → ℕ → ℕ → ℕ → Settings
-settings_of durable file_size perm_pages ckpt_pages =
-    record { durable_commits = durable; log_file_size = file_size; log_buf_size = 65536; perm_pages = perm_pages; ckpt_pages = ckpt_pages; database = 1 }
-
-abbrev usual : Settings
-usual = settings_of false 67108864 1024 8
-
-abbrev durable : Settings
-durable = settings_of true 67108864 1024 8
-
-abbrev small_files : Settings
-small_files = settings_of false 8192 1024 256
-
-abbrev one_page_a_round : Settings
-one_page_a_round = settings_of false 67108864 1024 1
-
-abbrev one_page_filled : Settings
-one_page_filled = settings_of false 67108864 1 8
-
--- A run over a database just created.
-abbrev start : Settings → State
-start settings = begun settings (created 1) (λ n. nat_eq n 0) (λ n. None)
-
--- What opening finds where a run stopped and just its forced entries are left, over the empty first image.
-abbrev left_by : Trail → State → Found
-left_by entries s = record { cells = standing no_cells entries; entries = entries; end = force_position s; next = next_number 1 entries; heads = only_first (first_head 0 1) }
-
-abbrev again_with : Settings → State → State
-again_with settings s = begun settings (left_by (oldest s.forced (trail s)) s) (λ n. nat_eq n 0) (λ n. None)
-
-abbrev again : State → State
-again s = again_with s.settings s
-
-abbrev column : List ℕ → ColumnType → ColumnText
-column name kind = record { name = name; kind = kind; required = false }
-
-abbrev whole : ℕ → Value
-whole n = Int (pos n)
-
-abbrev create_kv : Command
-create_kv = CreateTable (codes "kv") (column (codes "k") BigInt ∷ column (codes "v") BigInt ∷ []) (codes "k" ∷ [])
-
-abbrev pair : ℕ → ℕ → Command
-pair k v = Insert (codes "kv") (whole k ∷ whole v ∷ [])
-
--- A count of pairs with keys from a first one on, each with this value, in this session.
-abbrev pairs : ℕ → ℕ → ℕ → ℕ → List Line
-pairs session n first v = map (λ k. (session, pair k v)) (numbers_from n first)
-
-abbrev set_v : ℕ → Command
-set_v n = Update (codes "kv") (record { column = codes "v"; source = Literal (whole n) } ∷ []) None
-
--- The rows whose column has this number.
-abbrev is_number : List ℕ → ℕ → Cond
-is_number name n = roll-Cond (Compare name Eq (OfLiteral (whole n)))
-
-abbrev equals : List ℕ → ℕ → Meaning
-equals name n = comparison name Eq (OfLiteral (whole n))
-
-number_means : (name : List ℕ) (n : ℕ) → meaning (is_number name n) ≡ equals name n
-number_means name n = means-comparison name Eq (OfLiteral (whole n))
-
-abbrev set_v_of : ℕ → ℕ → Command
-set_v_of k n = Update (codes "kv") (record { column = codes "v"; source = Literal (whole n) } ∷ []) (Some (is_number (codes "k") k))
-
-abbrev delete_of : ℕ → Command
-delete_of k = Delete (codes "kv") (Some (is_number (codes "k") k))
-
-abbrev all_kv : Command
-all_kv = Select (codes "kv") All None []
-
-abbrev row_of : List Value → Row
-row_of values = record { values = values }
-
-abbrev pair_row : ℕ → ℕ → Row
-pair_row k v = row_of (whole k ∷ whole v ∷ [])
-
--- A table of a key and a text, and its rows with a count of letters.
-abbrev create_t : Command
-create_t = CreateTable (codes "t") (column (codes "k") BigInt ∷ column (codes "s") (Varchar 200) ∷ []) (codes "k" ∷ [])
-
-abbrev letters : ℕ → Value
-letters n = Text (replicate n 120)
-
-abbrev text_row : ℕ → ℕ → Command
-text_row k n = Insert (codes "t") (whole k ∷ letters n ∷ [])
-
-abbrev text_rows : ℕ → ℕ → ℕ → ℕ → List Line
-text_rows session count first n = map (λ k. (session, text_row k n)) (numbers_from count first)
-
--- An inserted pair as a reader is given it.
-abbrev given : Bool → Bool → ℕ → ℕ → ℕ → UpdateGiven
-given first last t k v = record { first = first; last = last; transaction = t; table = codes "kv"; edit = InsertOf (pair_row k v) }
-
-abbrev held : HoldKind → Position → Hold
-held kind at = record { at = at; kind = kind }
-
--- The positions at which lines leave the end of the log, one after another.
-abbrev ends_after : List Line → State → List Position
-ends_after [] s = []
-ends_after (l ∷ ls) s = let next = (stepped (l.0) (l.1) s).1 in write_position next ∷ ends_after ls next
+use Rattle.tt_model.proofs.ConditionRuns.{Line, Meaning, Told, replies, after, negation, means-negation, conds_in, AreMeant, lines_by, replies_told, after_told, replies-by, after-by}
+use Rattle.tt_model.proofs.ExampleWords.{settings_of, usual, durable, small_files, one_page_a_round, one_page_filled, start, left_by, again_with, again, column, whole, create_kv, pair, pairs, set_v, is_number, equals, number_means, key_is, key_means, set_v_of, delete_of, all_kv, row_of, pair_row, create_t, letters, text_row, text_rows, given, held}
 
 -- ---- positions and forces
 
@@ -179,7 +65,7 @@ durable_commit : replies durable_commit_lines (start durable) ≡
     ∷ Done
     ∷ Positions (position 0 255) (position 0 255) (position 0 0)
     ∷ []
-unfolding begun with_entry all_forced reversals forced_for line with_copies with_all_copies with_completion begin_checkpoint completed meant_by_create_table meant_by_drop_table meant_by_create_index meant_by_drop_index meant_by_create_bookmark meant_by_delete_bookmark meant_by_subscribe meant_by_unsubscribe meant_by_acknowledge backup_refusal meant_by_insert meant_by_update meant_by_delete meant_by_select truth has_columns has_kinds catalog_of rows_of committed live in_use next_number holder other_holder holds_of first_entry before low due open_after be
+unfolding begun with_entry all_forced reversals forced_for line with_copies with_all_copies with_completion begin_checkpoint completed meant_by_create_table meant_by_drop_table meant_by_create_index meant_by_drop_index meant_by_create_bookmark meant_by_delete_bookmark meant_by_subscribe meant_by_unsubscribe meant_by_acknowledge backup_refusal meant_by_insert meant_by_update meant_by_delete meant_by_select truth has_columns has_kinds catalog_of rows_of committed live in_use next_number holder other_holder holds_of first_entry before low due open_after big_endian
 durable_commit = refl
 
 -- The next run finds the row.
@@ -193,16 +79,16 @@ found_in_the_next_run : replies found_in_the_next_run_lines (again (after durabl
     Refused DuplicateKey
     ∷ Rows (pair_row 1 10 ∷ [])
     ∷ []
-unfolding begun with_entry all_forced reversals forced_for line with_copies with_all_copies with_completion begin_checkpoint completed meant_by_create_table meant_by_drop_table meant_by_create_index meant_by_drop_index meant_by_create_bookmark meant_by_delete_bookmark meant_by_subscribe meant_by_unsubscribe meant_by_acknowledge backup_refusal meant_by_insert meant_by_update meant_by_delete meant_by_select truth has_columns has_kinds catalog_of rows_of committed live in_use next_number holder other_holder holds_of first_entry before low due open_after be standing
+unfolding begun with_entry all_forced reversals forced_for line with_copies with_all_copies with_completion begin_checkpoint completed meant_by_create_table meant_by_drop_table meant_by_create_index meant_by_drop_index meant_by_create_bookmark meant_by_delete_bookmark meant_by_subscribe meant_by_unsubscribe meant_by_acknowledge backup_refusal meant_by_insert meant_by_update meant_by_delete meant_by_select truth has_columns has_kinds catalog_of rows_of committed live in_use next_number holder other_holder holds_of first_entry before low due open_after big_endian standing
 found_in_the_next_run = refl
 
 -- A run without a line leaves one Mark, and its end forces it.
 empty_run : trail ((ended (start usual)).1) ≡ record { at = position 0 0; entry = MarkEntry } ∷ []
-unfolding begun with_entry all_forced forced_for live ended be
+unfolding begun with_entry all_forced forced_for live ended big_endian
 empty_run = refl
 
 empty_run_forced : force_position ((ended (start usual)).1) ≡ position 0 1
-unfolding begun with_entry all_forced forced_for live ended be
+unfolding begun with_entry all_forced forced_for live ended big_endian
 empty_run_forced = refl
 
 -- A run begins at the end that was found, also where that is the head of a file whose first entry was never written.
@@ -211,12 +97,12 @@ begun_at_the_next_file = refl
 
 -- A file that is just full begins no new one.
 full_file : drop 36 (replies ((1, create_t) ∷ text_rows 1 33 1 200 ++ (1, text_row 34 100) ∷ (1, text_row 35 97) ∷ (1, Bookmark) ∷ []) (start (settings_of false 8192 1024 8))) ≡ Positions (position 0 8192) (position 0 0) (position 0 0) ∷ []
-unfolding begun with_entry all_forced reversals forced_for line with_copies with_all_copies with_completion begin_checkpoint completed meant_by_create_table meant_by_drop_table meant_by_create_index meant_by_drop_index meant_by_create_bookmark meant_by_delete_bookmark meant_by_subscribe meant_by_unsubscribe meant_by_acknowledge backup_refusal meant_by_insert meant_by_update meant_by_delete meant_by_select truth has_columns has_kinds catalog_of rows_of committed live in_use next_number holder other_holder holds_of first_entry before low due open_after be
+unfolding begun with_entry all_forced reversals forced_for line with_copies with_all_copies with_completion begin_checkpoint completed meant_by_create_table meant_by_drop_table meant_by_create_index meant_by_drop_index meant_by_create_bookmark meant_by_delete_bookmark meant_by_subscribe meant_by_unsubscribe meant_by_acknowledge backup_refusal meant_by_insert meant_by_update meant_by_delete meant_by_select truth has_columns has_kinds catalog_of rows_of committed live in_use next_number holder other_holder holds_of first_entry before low due open_after big_endian
 full_file = refl
 
 -- One byte more goes to the next file, and the entries before it are forced.
 next_file : drop 36 (replies ((1, create_t) ∷ text_rows 1 33 1 200 ++ (1, text_row 34 100) ∷ (1, text_row 35 98) ∷ (1, Bookmark) ∷ []) (start (settings_of false 8192 1024 8))) ≡ Positions (position 1 132) (position 0 8061) (position 0 0) ∷ []
-unfolding begun with_entry all_forced reversals forced_for line with_copies with_all_copies with_completion begin_checkpoint completed meant_by_create_table meant_by_drop_table meant_by_create_index meant_by_drop_index meant_by_create_bookmark meant_by_delete_bookmark meant_by_subscribe meant_by_unsubscribe meant_by_acknowledge backup_refusal meant_by_insert meant_by_update meant_by_delete meant_by_select truth has_columns has_kinds catalog_of rows_of committed live in_use next_number holder other_holder holds_of first_entry before low due open_after be
+unfolding begun with_entry all_forced reversals forced_for line with_copies with_all_copies with_completion begin_checkpoint completed meant_by_create_table meant_by_drop_table meant_by_create_index meant_by_drop_index meant_by_create_bookmark meant_by_delete_bookmark meant_by_subscribe meant_by_unsubscribe meant_by_acknowledge backup_refusal meant_by_insert meant_by_update meant_by_delete meant_by_select truth has_columns has_kinds catalog_of rows_of committed live in_use next_number holder other_holder holds_of first_entry before low due open_after big_endian
 next_file = refl
 
 -- ---- transactions and locks
@@ -235,10 +121,8 @@ conflict_and_rollback_lines =
     ∷ (1, all_kv)
     ∷ []
 
-conflict_and_rollback_means : told_lines conflict_and_rollback_lines ≡ lines_by (equals (codes "k") 1) (equals (codes "k") 1) (equals (codes "k") 1) conflict_and_rollback_lines
-conflict_and_rollback_means = ap (λ (m : Meaning). lines_by m m m conflict_and_rollback_lines) (number_means (codes "k") 1)
-
-conflict_and_rollback_told : replies_told (lines_by (equals (codes "k") 1) (equals (codes "k") 1) (equals (codes "k") 1) conflict_and_rollback_lines) (start durable) ≡
+abbrev conflict_and_rollback_replies : List Reply
+conflict_and_rollback_replies =
     Done
     ∷ Changed 1
     ∷ Done
@@ -249,21 +133,13 @@ conflict_and_rollback_told : replies_told (lines_by (equals (codes "k") 1) (equa
     ∷ Done
     ∷ Rows (pair_row 1 12 ∷ [])
     ∷ []
-unfolding begun with_entry all_forced reversals forced_for line with_copies with_all_copies with_completion begin_checkpoint completed meant_by_create_table meant_by_drop_table meant_by_create_index meant_by_drop_index meant_by_create_bookmark meant_by_delete_bookmark meant_by_subscribe meant_by_unsubscribe meant_by_acknowledge backup_refusal meant_by_insert meant_by_update meant_by_delete meant_by_select catalog_of rows_of committed live in_use next_number holder other_holder holds_of first_entry before low due open_after be
+
+conflict_and_rollback_told : replies_told (lines_by (key_is 1 ∷ key_is 1 ∷ key_is 1 ∷ []) conflict_and_rollback_lines) (start durable) ≡ conflict_and_rollback_replies
+unfolding begun with_entry all_forced reversals forced_for line with_copies with_all_copies with_completion begin_checkpoint completed meant_by_create_table meant_by_drop_table meant_by_create_index meant_by_drop_index meant_by_create_bookmark meant_by_delete_bookmark meant_by_subscribe meant_by_unsubscribe meant_by_acknowledge backup_refusal meant_by_insert meant_by_update meant_by_delete meant_by_select catalog_of rows_of committed live in_use next_number holder other_holder holds_of first_entry before low due open_after big_endian
 conflict_and_rollback_told = refl
 
-conflict_and_rollback : replies conflict_and_rollback_lines (start durable) ≡
-    Done
-    ∷ Changed 1
-    ∷ Done
-    ∷ Changed 1
-    ∷ Refused (LockConflict 3)
-    ∷ Done
-    ∷ Changed 1
-    ∷ Done
-    ∷ Rows (pair_row 1 12 ∷ [])
-    ∷ []
-conflict_and_rollback = replies-by (equals (codes "k") 1) (equals (codes "k") 1) (equals (codes "k") 1) conflict_and_rollback_lines (start durable) conflict_and_rollback_means ∙ conflict_and_rollback_told
+conflict_and_rollback : replies conflict_and_rollback_lines (start durable) ≡ conflict_and_rollback_replies
+conflict_and_rollback = replies-by (key_is 1 ∷ key_is 1 ∷ key_is 1 ∷ []) conflict_and_rollback_lines (start durable) (key_means 1, (key_means 1, (key_means 1, tt))) ∙ conflict_and_rollback_told
 
 -- A deleted key is held; its own session may insert it again.
 abbrev deleted_key_is_held_lines : List Line
@@ -276,10 +152,8 @@ deleted_key_is_held_lines =
     ∷ (1, pair 1 30)
     ∷ []
 
-deleted_key_is_held_means : told_lines deleted_key_is_held_lines ≡ lines_by (equals (codes "k") 1) (equals (codes "k") 1) (equals (codes "k") 1) deleted_key_is_held_lines
-deleted_key_is_held_means = ap (λ (m : Meaning). lines_by m m m deleted_key_is_held_lines) (number_means (codes "k") 1)
-
-deleted_key_is_held_told : replies_told (lines_by (equals (codes "k") 1) (equals (codes "k") 1) (equals (codes "k") 1) deleted_key_is_held_lines) (start durable) ≡
+abbrev deleted_key_is_held_replies : List Reply
+deleted_key_is_held_replies =
     Done
     ∷ Changed 1
     ∷ Done
@@ -287,18 +161,13 @@ deleted_key_is_held_told : replies_told (lines_by (equals (codes "k") 1) (equals
     ∷ Refused (LockConflict 3)
     ∷ Changed 1
     ∷ []
-unfolding begun with_entry all_forced reversals forced_for line with_copies with_all_copies with_completion begin_checkpoint completed meant_by_create_table meant_by_drop_table meant_by_create_index meant_by_drop_index meant_by_create_bookmark meant_by_delete_bookmark meant_by_subscribe meant_by_unsubscribe meant_by_acknowledge backup_refusal meant_by_insert meant_by_update meant_by_delete meant_by_select catalog_of rows_of committed live in_use next_number holder other_holder holds_of first_entry before low due open_after be
+
+deleted_key_is_held_told : replies_told (lines_by (key_is 1 ∷ []) deleted_key_is_held_lines) (start durable) ≡ deleted_key_is_held_replies
+unfolding begun with_entry all_forced reversals forced_for line with_copies with_all_copies with_completion begin_checkpoint completed meant_by_create_table meant_by_drop_table meant_by_create_index meant_by_drop_index meant_by_create_bookmark meant_by_delete_bookmark meant_by_subscribe meant_by_unsubscribe meant_by_acknowledge backup_refusal meant_by_insert meant_by_update meant_by_delete meant_by_select catalog_of rows_of committed live in_use next_number holder other_holder holds_of first_entry before low due open_after big_endian
 deleted_key_is_held_told = refl
 
-deleted_key_is_held : replies deleted_key_is_held_lines (start durable) ≡
-    Done
-    ∷ Changed 1
-    ∷ Done
-    ∷ Changed 1
-    ∷ Refused (LockConflict 3)
-    ∷ Changed 1
-    ∷ []
-deleted_key_is_held = replies-by (equals (codes "k") 1) (equals (codes "k") 1) (equals (codes "k") 1) deleted_key_is_held_lines (start durable) deleted_key_is_held_means ∙ deleted_key_is_held_told
+deleted_key_is_held : replies deleted_key_is_held_lines (start durable) ≡ deleted_key_is_held_replies
+deleted_key_is_held = replies-by (key_is 1 ∷ []) deleted_key_is_held_lines (start durable) (key_means 1, tt) ∙ deleted_key_is_held_told
 
 -- Only the own session sees a row that isn't committed.
 abbrev own_changes_are_seen_lines : List Line
@@ -319,7 +188,7 @@ own_changes_are_seen : replies own_changes_are_seen_lines (start durable) ≡
     ∷ Rows (row_of (whole 10 ∷ []) ∷ [])
     ∷ Rows (row_of (whole 11 ∷ []) ∷ [])
     ∷ []
-unfolding begun with_entry all_forced reversals forced_for line with_copies with_all_copies with_completion begin_checkpoint completed meant_by_create_table meant_by_drop_table meant_by_create_index meant_by_drop_index meant_by_create_bookmark meant_by_delete_bookmark meant_by_subscribe meant_by_unsubscribe meant_by_acknowledge backup_refusal meant_by_insert meant_by_update meant_by_delete meant_by_select truth has_columns has_kinds catalog_of rows_of committed live in_use next_number holder other_holder holds_of first_entry before low due open_after be
+unfolding begun with_entry all_forced reversals forced_for line with_copies with_all_copies with_completion begin_checkpoint completed meant_by_create_table meant_by_drop_table meant_by_create_index meant_by_drop_index meant_by_create_bookmark meant_by_delete_bookmark meant_by_subscribe meant_by_unsubscribe meant_by_acknowledge backup_refusal meant_by_insert meant_by_update meant_by_delete meant_by_select truth has_columns has_kinds catalog_of rows_of committed live in_use next_number holder other_holder holds_of first_entry before low due open_after big_endian
 own_changes_are_seen = refl
 
 -- A table with a live change isn't dropped, and a session with one makes no table. A rollback writes the reversed change and an Abort.
@@ -341,7 +210,7 @@ rollback_writes_the_reverse : replies rollback_writes_the_reverse_lines (start u
     ∷ Done
     ∷ Positions (position 0 295) (position 0 0) (position 0 0)
     ∷ []
-unfolding begun with_entry all_forced reversals forced_for line with_copies with_all_copies with_completion begin_checkpoint completed meant_by_create_table meant_by_drop_table meant_by_create_index meant_by_drop_index meant_by_create_bookmark meant_by_delete_bookmark meant_by_subscribe meant_by_unsubscribe meant_by_acknowledge backup_refusal meant_by_insert meant_by_update meant_by_delete meant_by_select truth has_columns has_kinds catalog_of rows_of committed live in_use next_number holder other_holder holds_of first_entry before low due open_after be
+unfolding begun with_entry all_forced reversals forced_for line with_copies with_all_copies with_completion begin_checkpoint completed meant_by_create_table meant_by_drop_table meant_by_create_index meant_by_drop_index meant_by_create_bookmark meant_by_delete_bookmark meant_by_subscribe meant_by_unsubscribe meant_by_acknowledge backup_refusal meant_by_insert meant_by_update meant_by_delete meant_by_select truth has_columns has_kinds catalog_of rows_of committed live in_use next_number holder other_holder holds_of first_entry before low due open_after big_endian
 rollback_writes_the_reverse = refl
 
 -- ---- checkpoints
@@ -352,11 +221,8 @@ checkpoint_between_lines_lines =
     (1, create_kv) ∷ pairs 1 70 1 10
     ++ (1, Commit) ∷ (1, Ckpt) ∷ (1, set_v_of 70 0) ∷ (2, Select (codes "kv") (Sums (Count ∷ [])) (Some (is_number (codes "v") 0)) []) ∷ (2, Flush) ∷ (2, LogHolds) ∷ []
 
-checkpoint_between_lines_means : told_lines checkpoint_between_lines_lines ≡ lines_by (equals (codes "k") 70) (equals (codes "k") 70) (equals (codes "v") 0) checkpoint_between_lines_lines
-checkpoint_between_lines_means = ap (λ (m : Meaning). lines_by m m (meaning (is_number (codes "v") 0)) checkpoint_between_lines_lines) (number_means (codes "k") 70)
-    ∙ ap (λ (m : Meaning). lines_by (equals (codes "k") 70) (equals (codes "k") 70) m checkpoint_between_lines_lines) (number_means (codes "v") 0)
-
-checkpoint_between_lines_told : drop 71 (replies_told (lines_by (equals (codes "k") 70) (equals (codes "k") 70) (equals (codes "v") 0) checkpoint_between_lines_lines) (start one_page_a_round)) ≡
+abbrev checkpoint_between_lines_replies : List Reply
+checkpoint_between_lines_replies =
     Done
     ∷ Checkpoint 2 3
     ∷ Changed 1
@@ -364,18 +230,13 @@ checkpoint_between_lines_told : drop 71 (replies_told (lines_by (equals (codes "
     ∷ Done
     ∷ Holds (held (OfCheckpoint 0) (position 0 0) ∷ held (OfCheckpoint 1) (position 0 3015) ∷ held (OfTransaction 3) (position 0 3015) ∷ [])
     ∷ []
-unfolding begun with_entry all_forced reversals forced_for line with_copies with_all_copies with_completion begin_checkpoint completed meant_by_create_table meant_by_drop_table meant_by_create_index meant_by_drop_index meant_by_create_bookmark meant_by_delete_bookmark meant_by_subscribe meant_by_unsubscribe meant_by_acknowledge backup_refusal meant_by_insert meant_by_update meant_by_delete meant_by_select catalog_of rows_of committed live in_use next_number holder other_holder holds_of first_entry before low due open_after be
+
+checkpoint_between_lines_told : drop 71 (replies_told (lines_by (key_is 70 ∷ equals (codes "v") 0 ∷ []) checkpoint_between_lines_lines) (start one_page_a_round)) ≡ checkpoint_between_lines_replies
+unfolding begun with_entry all_forced reversals forced_for line with_copies with_all_copies with_completion begin_checkpoint completed meant_by_create_table meant_by_drop_table meant_by_create_index meant_by_drop_index meant_by_create_bookmark meant_by_delete_bookmark meant_by_subscribe meant_by_unsubscribe meant_by_acknowledge backup_refusal meant_by_insert meant_by_update meant_by_delete meant_by_select catalog_of rows_of committed live in_use next_number holder other_holder holds_of first_entry before low due open_after big_endian
 checkpoint_between_lines_told = refl
 
-checkpoint_between_lines : drop 71 (replies checkpoint_between_lines_lines (start one_page_a_round)) ≡
-    Done
-    ∷ Checkpoint 2 3
-    ∷ Changed 1
-    ∷ Rows (row_of (whole 0 ∷ []) ∷ [])
-    ∷ Done
-    ∷ Holds (held (OfCheckpoint 0) (position 0 0) ∷ held (OfCheckpoint 1) (position 0 3015) ∷ held (OfTransaction 3) (position 0 3015) ∷ [])
-    ∷ []
-checkpoint_between_lines = ap (λ (rs : List Reply). drop 71 rs) (replies-by (equals (codes "k") 70) (equals (codes "k") 70) (equals (codes "v") 0) checkpoint_between_lines_lines (start one_page_a_round) checkpoint_between_lines_means) ∙ checkpoint_between_lines_told
+checkpoint_between_lines : drop 71 (replies checkpoint_between_lines_lines (start one_page_a_round)) ≡ checkpoint_between_lines_replies
+checkpoint_between_lines = ap (λ (rs : List Reply). drop 71 rs) (replies-by (key_is 70 ∷ equals (codes "v") 0 ∷ []) checkpoint_between_lines_lines (start one_page_a_round) (key_means 70, (number_means (codes "v") 0, tt))) ∙ checkpoint_between_lines_told
 
 -- That checkpoint has copied the last page behind the update, which was never committed. What it copied: the first page as it was
 -- held before the update, the two others as they were held behind it.
@@ -395,38 +256,32 @@ abbrev last_row : List Line
 last_row = (1, Select (codes "kv") (Columns (codes "v" ∷ [])) (Some (is_number (codes "k") 70)) []) ∷ []
 
 abbrev last_row_told : List (ℕ × Told)
-last_row_told = lines_by (equals (codes "k") 70) (equals (codes "k") 70) (equals (codes "k") 70) last_row
-
-last_row_means : told_lines last_row ≡ last_row_told
-last_row_means = ap (λ (m : Meaning). lines_by m m m last_row) (number_means (codes "k") 70)
+last_row_told = lines_by (key_is 70 ∷ []) last_row
 
 abbrev run_told : ℕ → State
-run_told n =
-    after_told (take n (lines_by (equals (codes "k") 70) (equals (codes "k") 70) (equals (codes "v") 0) checkpoint_between_lines_lines)) (start one_page_a_round)
+run_told n = after_told (lines_by (key_is 70 ∷ equals (codes "v") 0 ∷ []) (take n checkpoint_between_lines_lines)) (start one_page_a_round)
 
 abbrev run_to : ℕ → State
 run_to n = after (take n checkpoint_between_lines_lines) (start one_page_a_round)
 
 image_holds_the_update : copied_image (run_told 73) (run_told 74) 72 ≡ Full 16 (pair_row 70 0)
-unfolding begun with_entry all_forced reversals forced_for line with_copies with_all_copies with_completion begin_checkpoint completed meant_by_create_table meant_by_drop_table meant_by_create_index meant_by_drop_index meant_by_create_bookmark meant_by_delete_bookmark meant_by_subscribe meant_by_unsubscribe meant_by_acknowledge backup_refusal meant_by_insert meant_by_update meant_by_delete meant_by_select catalog_of rows_of committed live in_use next_number holder other_holder holds_of first_entry before low due open_after be current
+unfolding begun with_entry all_forced reversals forced_for line with_copies with_all_copies with_completion begin_checkpoint completed meant_by_create_table meant_by_drop_table meant_by_create_index meant_by_drop_index meant_by_create_bookmark meant_by_delete_bookmark meant_by_subscribe meant_by_unsubscribe meant_by_acknowledge backup_refusal meant_by_insert meant_by_update meant_by_delete meant_by_select catalog_of rows_of committed live in_use next_number holder other_holder holds_of first_entry before low due open_after big_endian current
 image_holds_the_update = refl
 
 update_is_taken_back_told : replies_told last_row_told (opened_by_image (run_told 73) (run_told 74) (run_told 77)) ≡ Rows (row_of (whole 10 ∷ []) ∷ []) ∷ []
-unfolding begun with_entry all_forced reversals forced_for line with_copies with_all_copies with_completion begin_checkpoint completed meant_by_create_table meant_by_drop_table meant_by_create_index meant_by_drop_index meant_by_create_bookmark meant_by_delete_bookmark meant_by_subscribe meant_by_unsubscribe meant_by_acknowledge backup_refusal meant_by_insert meant_by_update meant_by_delete meant_by_select catalog_of rows_of committed live in_use next_number holder other_holder holds_of first_entry before low due open_after be standing current
+unfolding begun with_entry all_forced reversals forced_for line with_copies with_all_copies with_completion begin_checkpoint completed meant_by_create_table meant_by_drop_table meant_by_create_index meant_by_drop_index meant_by_create_bookmark meant_by_delete_bookmark meant_by_subscribe meant_by_unsubscribe meant_by_acknowledge backup_refusal meant_by_insert meant_by_update meant_by_delete meant_by_select catalog_of rows_of committed live in_use next_number holder other_holder holds_of first_entry before low due open_after big_endian standing current
 update_is_taken_back_told = refl
 
-same_run : (n : ℕ) → told_lines (take n checkpoint_between_lines_lines) ≡ take n (told_lines checkpoint_between_lines_lines) → run_to n ≡ run_told n
-same_run n taken =
-    after-told (take n checkpoint_between_lines_lines) (start one_page_a_round)
-    ∙ ap (λ (ls : List (ℕ × Told)). after_told ls (start one_page_a_round)) (taken ∙ ap (λ (ls : List (ℕ × Told)). take n ls) checkpoint_between_lines_means)
+same_run : (n : ℕ) → AreMeant (conds_in (take n checkpoint_between_lines_lines)) (key_is 70 ∷ equals (codes "v") 0 ∷ []) → run_to n ≡ run_told n
+same_run n are = after-by (key_is 70 ∷ equals (codes "v") 0 ∷ []) (take n checkpoint_between_lines_lines) (start one_page_a_round) are
 
 -- After the stop opening takes the update back.
 update_is_taken_back : replies last_row (opened_by_image (run_to 73) (run_to 74) (run_to 77)) ≡ Rows (row_of (whole 10 ∷ []) ∷ []) ∷ []
 update_is_taken_back =
-    replies-by (equals (codes "k") 70) (equals (codes "k") 70) (equals (codes "k") 70) last_row (opened_by_image (run_to 73) (run_to 74) (run_to 77)) last_row_means
-    ∙ (ap (λ (s : State). replies_told last_row_told (opened_by_image s (run_to 74) (run_to 77))) (same_run 73 refl)
-    ∙ (ap (λ (s : State). replies_told last_row_told (opened_by_image (run_told 73) s (run_to 77))) (same_run 74 refl)
-    ∙ (ap (λ (s : State). replies_told last_row_told (opened_by_image (run_told 73) (run_told 74) s)) (same_run 77 refl)
+    replies-by (key_is 70 ∷ []) last_row (opened_by_image (run_to 73) (run_to 74) (run_to 77)) (key_means 70, tt)
+    ∙ (ap (λ (s : State). replies_told last_row_told (opened_by_image s (run_to 74) (run_to 77))) (same_run 73 tt)
+    ∙ (ap (λ (s : State). replies_told last_row_told (opened_by_image (run_told 73) s (run_to 77))) (same_run 74 (key_means 70, tt))
+    ∙ (ap (λ (s : State). replies_told last_row_told (opened_by_image (run_told 73) (run_told 74) s)) (same_run 77 (key_means 70, (number_means (codes "v") 0, tt)))
     ∙ update_is_taken_back_told)))
 
 -- Blocking checkpoints write the two files in turn; after both have all pages, none is left to copy.
@@ -450,7 +305,7 @@ blocking_checkpoints : replies blocking_checkpoints_lines (start durable) ≡
     ∷ Checkpoint 3 1
     ∷ Checkpoint 4 0
     ∷ []
-unfolding begun with_entry all_forced reversals forced_for line with_copies with_all_copies with_completion begin_checkpoint completed meant_by_create_table meant_by_drop_table meant_by_create_index meant_by_drop_index meant_by_create_bookmark meant_by_delete_bookmark meant_by_subscribe meant_by_unsubscribe meant_by_acknowledge backup_refusal meant_by_insert meant_by_update meant_by_delete meant_by_select truth has_columns has_kinds catalog_of rows_of committed live in_use next_number holder other_holder holds_of first_entry before low due open_after be
+unfolding begun with_entry all_forced reversals forced_for line with_copies with_all_copies with_completion begin_checkpoint completed meant_by_create_table meant_by_drop_table meant_by_create_index meant_by_drop_index meant_by_create_bookmark meant_by_delete_bookmark meant_by_subscribe meant_by_unsubscribe meant_by_acknowledge backup_refusal meant_by_insert meant_by_update meant_by_delete meant_by_select truth has_columns has_kinds catalog_of rows_of committed live in_use next_number holder other_holder holds_of first_entry before low due open_after big_endian
 blocking_checkpoints = refl
 
 -- An open transaction holds the log over three files, and keeps a blocking checkpoint out.
@@ -470,17 +325,17 @@ holds_over_files : drop 74 (replies holds_over_files_lines (start small_files)) 
     ∷ Checkpoint 5 0
     ∷ Holds (held (OfCheckpoint 0) (position 2 954) ∷ held (OfCheckpoint 1) (position 2 954) ∷ [])
     ∷ []
-unfolding begun with_entry all_forced reversals forced_for line with_copies with_all_copies with_completion begin_checkpoint completed meant_by_create_table meant_by_drop_table meant_by_create_index meant_by_drop_index meant_by_create_bookmark meant_by_delete_bookmark meant_by_subscribe meant_by_unsubscribe meant_by_acknowledge backup_refusal meant_by_insert meant_by_update meant_by_delete meant_by_select truth has_columns has_kinds catalog_of rows_of committed live in_use next_number holder other_holder holds_of first_entry before low due open_after be
+unfolding begun with_entry all_forced reversals forced_for line with_copies with_all_copies with_completion begin_checkpoint completed meant_by_create_table meant_by_drop_table meant_by_create_index meant_by_drop_index meant_by_create_bookmark meant_by_delete_bookmark meant_by_subscribe meant_by_unsubscribe meant_by_acknowledge backup_refusal meant_by_insert meant_by_update meant_by_delete meant_by_select truth has_columns has_kinds catalog_of rows_of committed live in_use next_number holder other_holder holds_of first_entry before low due open_after big_endian
 holds_over_files = refl
 
 -- Before the last checkpoint of that run its three log files are there.
 files_held : map (λ n. (after (take 81 holds_over_files_lines) (start small_files)).files n) (0 ∷ 1 ∷ 2 ∷ 3 ∷ []) ≡ true ∷ true ∷ true ∷ false ∷ []
-unfolding begun with_entry all_forced reversals forced_for line with_copies with_all_copies with_completion begin_checkpoint completed meant_by_create_table meant_by_drop_table meant_by_create_index meant_by_drop_index meant_by_create_bookmark meant_by_delete_bookmark meant_by_subscribe meant_by_unsubscribe meant_by_acknowledge backup_refusal meant_by_insert meant_by_update meant_by_delete meant_by_select truth has_columns has_kinds catalog_of rows_of committed live in_use next_number holder other_holder holds_of first_entry before low due open_after be
+unfolding begun with_entry all_forced reversals forced_for line with_copies with_all_copies with_completion begin_checkpoint completed meant_by_create_table meant_by_drop_table meant_by_create_index meant_by_drop_index meant_by_create_bookmark meant_by_delete_bookmark meant_by_subscribe meant_by_unsubscribe meant_by_acknowledge backup_refusal meant_by_insert meant_by_update meant_by_delete meant_by_select truth has_columns has_kinds catalog_of rows_of committed live in_use next_number holder other_holder holds_of first_entry before low due open_after big_endian
 files_held = refl
 
 -- Its completion removes those that nothing holds.
 files_removed : map (λ n. (after (take 82 holds_over_files_lines) (start small_files)).files n) (0 ∷ 1 ∷ 2 ∷ 3 ∷ []) ≡ false ∷ false ∷ true ∷ false ∷ []
-unfolding begun with_entry all_forced reversals forced_for line with_copies with_all_copies with_completion begin_checkpoint completed meant_by_create_table meant_by_drop_table meant_by_create_index meant_by_drop_index meant_by_create_bookmark meant_by_delete_bookmark meant_by_subscribe meant_by_unsubscribe meant_by_acknowledge backup_refusal meant_by_insert meant_by_update meant_by_delete meant_by_select truth has_columns has_kinds catalog_of rows_of committed live in_use next_number holder other_holder holds_of first_entry before low due open_after be
+unfolding begun with_entry all_forced reversals forced_for line with_copies with_all_copies with_completion begin_checkpoint completed meant_by_create_table meant_by_drop_table meant_by_create_index meant_by_drop_index meant_by_create_bookmark meant_by_delete_bookmark meant_by_subscribe meant_by_unsubscribe meant_by_acknowledge backup_refusal meant_by_insert meant_by_update meant_by_delete meant_by_select truth has_columns has_kinds catalog_of rows_of committed live in_use next_number holder other_holder holds_of first_entry before low due open_after big_endian
 files_removed = refl
 
 -- ---- change readers
@@ -512,7 +367,7 @@ changes_before_the_bookmark : replies changes_before_the_bookmark_lines (start u
     ∷ Updates (given true false 2 1 10 ∷ given false true 2 2 20 ∷ [])
     ∷ Refused (BookmarkBusy 2)
     ∷ []
-unfolding begun with_entry all_forced reversals forced_for line with_copies with_all_copies with_completion begin_checkpoint completed meant_by_create_table meant_by_drop_table meant_by_create_index meant_by_drop_index meant_by_create_bookmark meant_by_delete_bookmark meant_by_subscribe meant_by_unsubscribe meant_by_acknowledge backup_refusal meant_by_insert meant_by_update meant_by_delete meant_by_select truth has_columns has_kinds catalog_of rows_of committed live in_use next_number holder other_holder holds_of first_entry before low due open_after be
+unfolding begun with_entry all_forced reversals forced_for line with_copies with_all_copies with_completion begin_checkpoint completed meant_by_create_table meant_by_drop_table meant_by_create_index meant_by_drop_index meant_by_create_bookmark meant_by_delete_bookmark meant_by_subscribe meant_by_unsubscribe meant_by_acknowledge backup_refusal meant_by_insert meant_by_update meant_by_delete meant_by_select truth has_columns has_kinds catalog_of rows_of committed live in_use next_number holder other_holder holds_of first_entry before low due open_after big_endian
 changes_before_the_bookmark = refl
 
 -- A reader takes the first two of five changes, and acknowledges them.
@@ -537,7 +392,7 @@ read_in_part : drop 9 (replies read_in_part_lines (start durable)) ≡
     ∷ Updates (given true false 4 1 10 ∷ given false false 4 2 20 ∷ [])
     ∷ Done
     ∷ []
-unfolding begun with_entry all_forced reversals forced_for line with_copies with_all_copies with_completion begin_checkpoint completed meant_by_create_table meant_by_drop_table meant_by_create_index meant_by_drop_index meant_by_create_bookmark meant_by_delete_bookmark meant_by_subscribe meant_by_unsubscribe meant_by_acknowledge backup_refusal meant_by_insert meant_by_update meant_by_delete meant_by_select truth has_columns has_kinds catalog_of rows_of committed live in_use next_number holder other_holder holds_of first_entry before low due open_after be
+unfolding begun with_entry all_forced reversals forced_for line with_copies with_all_copies with_completion begin_checkpoint completed meant_by_create_table meant_by_drop_table meant_by_create_index meant_by_drop_index meant_by_create_bookmark meant_by_delete_bookmark meant_by_subscribe meant_by_unsubscribe meant_by_acknowledge backup_refusal meant_by_insert meant_by_update meant_by_delete meant_by_select truth has_columns has_kinds catalog_of rows_of committed live in_use next_number holder other_holder holds_of first_entry before low due open_after big_endian
 read_in_part = refl
 
 -- After a stop it goes on behind them.
@@ -551,7 +406,7 @@ read_on_after_a_stop : replies read_on_after_a_stop_lines (again (after read_in_
     Done
     ∷ Updates (given false false 4 3 30 ∷ given false false 4 4 40 ∷ given false true 4 5 50 ∷ [])
     ∷ []
-unfolding begun with_entry all_forced reversals forced_for line with_copies with_all_copies with_completion begin_checkpoint completed meant_by_create_table meant_by_drop_table meant_by_create_index meant_by_drop_index meant_by_create_bookmark meant_by_delete_bookmark meant_by_subscribe meant_by_unsubscribe meant_by_acknowledge backup_refusal meant_by_insert meant_by_update meant_by_delete meant_by_select truth has_columns has_kinds catalog_of rows_of committed live in_use next_number holder other_holder holds_of first_entry before low due open_after be standing
+unfolding begun with_entry all_forced reversals forced_for line with_copies with_all_copies with_completion begin_checkpoint completed meant_by_create_table meant_by_drop_table meant_by_create_index meant_by_drop_index meant_by_create_bookmark meant_by_delete_bookmark meant_by_subscribe meant_by_unsubscribe meant_by_acknowledge backup_refusal meant_by_insert meant_by_update meant_by_delete meant_by_select truth has_columns has_kinds catalog_of rows_of committed live in_use next_number holder other_holder holds_of first_entry before low due open_after big_endian standing
 read_on_after_a_stop = refl
 
 -- A reader is given nothing that isn't forced, and nothing without a subscription.
@@ -584,7 +439,7 @@ only_forced_commits_are_given : drop 7 (replies only_forced_commits_are_given_li
     ∷ Done
     ∷ Updates []
     ∷ []
-unfolding begun with_entry all_forced reversals forced_for line with_copies with_all_copies with_completion begin_checkpoint completed meant_by_create_table meant_by_drop_table meant_by_create_index meant_by_drop_index meant_by_create_bookmark meant_by_delete_bookmark meant_by_subscribe meant_by_unsubscribe meant_by_acknowledge backup_refusal meant_by_insert meant_by_update meant_by_delete meant_by_select truth has_columns has_kinds catalog_of rows_of committed live in_use next_number holder other_holder holds_of first_entry before low due open_after be
+unfolding begun with_entry all_forced reversals forced_for line with_copies with_all_copies with_completion begin_checkpoint completed meant_by_create_table meant_by_drop_table meant_by_create_index meant_by_drop_index meant_by_create_bookmark meant_by_delete_bookmark meant_by_subscribe meant_by_unsubscribe meant_by_acknowledge backup_refusal meant_by_insert meant_by_update meant_by_delete meant_by_select truth has_columns has_kinds catalog_of rows_of committed live in_use next_number holder other_holder holds_of first_entry before low due open_after big_endian
 only_forced_commits_are_given = refl
 
 -- ---- backups
@@ -610,7 +465,7 @@ full_and_incremental : replies full_and_incremental_lines (start usual) ≡
     ∷ Done
     ∷ Backup 1 false (position 0 362)
     ∷ []
-unfolding begun with_entry all_forced reversals forced_for line with_copies with_all_copies with_completion begin_checkpoint completed meant_by_create_table meant_by_drop_table meant_by_create_index meant_by_drop_index meant_by_create_bookmark meant_by_delete_bookmark meant_by_subscribe meant_by_unsubscribe meant_by_acknowledge backup_refusal meant_by_insert meant_by_update meant_by_delete meant_by_select truth has_columns has_kinds catalog_of rows_of committed live in_use next_number holder other_holder holds_of first_entry before low due open_after be
+unfolding begun with_entry all_forced reversals forced_for line with_copies with_all_copies with_completion begin_checkpoint completed meant_by_create_table meant_by_drop_table meant_by_create_index meant_by_drop_index meant_by_create_bookmark meant_by_delete_bookmark meant_by_subscribe meant_by_unsubscribe meant_by_acknowledge backup_refusal meant_by_insert meant_by_update meant_by_delete meant_by_select truth has_columns has_kinds catalog_of rows_of committed live in_use next_number holder other_holder holds_of first_entry before low due open_after big_endian
 full_and_incremental = refl
 
 -- The rows of kv that a set stands for, and those that restoring it leaves.
@@ -621,11 +476,11 @@ rows_in (Some (Sound set)) = map (λ r. r.1) (rows_of 16 32 (set_cells set)) ∷
 
 -- The set has the first row after the full backup, and both after the incremental one.
 rows_of_the_full_set : rows_in ((after (take 4 full_and_incremental_lines) (start usual)).sets 1) ≡ (pair_row 1 10 ∷ []) ∷ (pair_row 1 10 ∷ []) ∷ []
-unfolding begun with_entry all_forced reversals forced_for line with_copies with_all_copies with_completion begin_checkpoint completed meant_by_create_table meant_by_drop_table meant_by_create_index meant_by_drop_index meant_by_create_bookmark meant_by_delete_bookmark meant_by_subscribe meant_by_unsubscribe meant_by_acknowledge backup_refusal meant_by_insert meant_by_update meant_by_delete meant_by_select truth has_columns has_kinds catalog_of rows_of committed live in_use next_number holder other_holder holds_of first_entry before low due open_after be standing current
+unfolding begun with_entry all_forced reversals forced_for line with_copies with_all_copies with_completion begin_checkpoint completed meant_by_create_table meant_by_drop_table meant_by_create_index meant_by_drop_index meant_by_create_bookmark meant_by_delete_bookmark meant_by_subscribe meant_by_unsubscribe meant_by_acknowledge backup_refusal meant_by_insert meant_by_update meant_by_delete meant_by_select truth has_columns has_kinds catalog_of rows_of committed live in_use next_number holder other_holder holds_of first_entry before low due open_after big_endian standing current
 rows_of_the_full_set = refl
 
 rows_of_the_extended_set : rows_in ((after full_and_incremental_lines (start usual)).sets 1) ≡ (pair_row 1 10 ∷ pair_row 2 20 ∷ []) ∷ (pair_row 1 10 ∷ pair_row 2 20 ∷ []) ∷ []
-unfolding begun with_entry all_forced reversals forced_for line with_copies with_all_copies with_completion begin_checkpoint completed meant_by_create_table meant_by_drop_table meant_by_create_index meant_by_drop_index meant_by_create_bookmark meant_by_delete_bookmark meant_by_subscribe meant_by_unsubscribe meant_by_acknowledge backup_refusal meant_by_insert meant_by_update meant_by_delete meant_by_select truth has_columns has_kinds catalog_of rows_of committed live in_use next_number holder other_holder holds_of first_entry before low due open_after be standing current
+unfolding begun with_entry all_forced reversals forced_for line with_copies with_all_copies with_completion begin_checkpoint completed meant_by_create_table meant_by_drop_table meant_by_create_index meant_by_drop_index meant_by_create_bookmark meant_by_delete_bookmark meant_by_subscribe meant_by_unsubscribe meant_by_acknowledge backup_refusal meant_by_insert meant_by_update meant_by_delete meant_by_select truth has_columns has_kinds catalog_of rows_of committed live in_use next_number holder other_holder holds_of first_entry before low due open_after big_endian standing current
 rows_of_the_extended_set = refl
 
 -- ---- places and limits
@@ -636,10 +491,8 @@ places_in_use_lines =
     (1, create_kv) ∷ pairs 1 29 1 1
     ++ (1, Commit) ∷ (1, pair 30 1) ∷ (1, delete_of 1) ∷ (1, pair 30 1) ∷ (1, Commit) ∷ (1, pair 30 1) ∷ []
 
-places_in_use_means : told_lines places_in_use_lines ≡ lines_by (equals (codes "k") 1) (equals (codes "k") 1) (equals (codes "k") 1) places_in_use_lines
-places_in_use_means = ap (λ (m : Meaning). lines_by m m m places_in_use_lines) (number_means (codes "k") 1)
-
-places_in_use_told : drop 29 (replies_told (lines_by (equals (codes "k") 1) (equals (codes "k") 1) (equals (codes "k") 1) places_in_use_lines) (start one_page_filled)) ≡
+abbrev places_in_use_replies : List Reply
+places_in_use_replies =
     Changed 1
     ∷ Done
     ∷ Refused (PermFull 32)
@@ -648,19 +501,13 @@ places_in_use_told : drop 29 (replies_told (lines_by (equals (codes "k") 1) (equ
     ∷ Done
     ∷ Changed 1
     ∷ []
-unfolding begun with_entry all_forced reversals forced_for line with_copies with_all_copies with_completion begin_checkpoint completed meant_by_create_table meant_by_drop_table meant_by_create_index meant_by_drop_index meant_by_create_bookmark meant_by_delete_bookmark meant_by_subscribe meant_by_unsubscribe meant_by_acknowledge backup_refusal meant_by_insert meant_by_update meant_by_delete meant_by_select catalog_of rows_of committed live in_use next_number holder other_holder holds_of first_entry before low due open_after be
+
+places_in_use_told : drop 29 (replies_told (lines_by (key_is 1 ∷ []) places_in_use_lines) (start one_page_filled)) ≡ places_in_use_replies
+unfolding begun with_entry all_forced reversals forced_for line with_copies with_all_copies with_completion begin_checkpoint completed meant_by_create_table meant_by_drop_table meant_by_create_index meant_by_drop_index meant_by_create_bookmark meant_by_delete_bookmark meant_by_subscribe meant_by_unsubscribe meant_by_acknowledge backup_refusal meant_by_insert meant_by_update meant_by_delete meant_by_select catalog_of rows_of committed live in_use next_number holder other_holder holds_of first_entry before low due open_after big_endian
 places_in_use_told = refl
 
-places_in_use : drop 29 (replies places_in_use_lines (start one_page_filled)) ≡
-    Changed 1
-    ∷ Done
-    ∷ Refused (PermFull 32)
-    ∷ Changed 1
-    ∷ Refused (PermFull 32)
-    ∷ Done
-    ∷ Changed 1
-    ∷ []
-places_in_use = ap (λ (rs : List Reply). drop 29 rs) (replies-by (equals (codes "k") 1) (equals (codes "k") 1) (equals (codes "k") 1) places_in_use_lines (start one_page_filled) places_in_use_means) ∙ places_in_use_told
+places_in_use : drop 29 (replies places_in_use_lines (start one_page_filled)) ≡ places_in_use_replies
+places_in_use = ap (λ (rs : List Reply). drop 29 rs) (replies-by (key_is 1 ∷ []) places_in_use_lines (start one_page_filled) (key_means 1, tt)) ∙ places_in_use_told
 
 -- A database with more rows than it may now fill takes updates and no insert.
 abbrev more_rows_than_pages_lines : List Line
@@ -672,21 +519,18 @@ more_rows_than_pages_lines =
 abbrev forty_rows : State
 forty_rows = again_with one_page_filled (after ((1, create_kv) ∷ pairs 1 40 1 1 ++ (1, Commit) ∷ (1, Flush) ∷ []) (start usual))
 
-more_rows_than_pages_means : told_lines more_rows_than_pages_lines ≡ lines_by (equals (codes "k") 40) (equals (codes "k") 40) (equals (codes "k") 40) more_rows_than_pages_lines
-more_rows_than_pages_means = ap (λ (m : Meaning). lines_by m m m more_rows_than_pages_lines) (number_means (codes "k") 40)
-
-more_rows_than_pages_told : replies_told (lines_by (equals (codes "k") 40) (equals (codes "k") 40) (equals (codes "k") 40) more_rows_than_pages_lines) forty_rows ≡
+abbrev more_rows_than_pages_replies : List Reply
+more_rows_than_pages_replies =
     Changed 1
     ∷ Refused (PermFull 32)
     ∷ []
-unfolding begun with_entry all_forced reversals forced_for line with_copies with_all_copies with_completion begin_checkpoint completed meant_by_create_table meant_by_drop_table meant_by_create_index meant_by_drop_index meant_by_create_bookmark meant_by_delete_bookmark meant_by_subscribe meant_by_unsubscribe meant_by_acknowledge backup_refusal meant_by_insert meant_by_update meant_by_delete meant_by_select catalog_of rows_of committed live in_use next_number holder other_holder holds_of first_entry before low due open_after be standing
+
+more_rows_than_pages_told : replies_told (lines_by (key_is 40 ∷ []) more_rows_than_pages_lines) forty_rows ≡ more_rows_than_pages_replies
+unfolding begun with_entry all_forced reversals forced_for line with_copies with_all_copies with_completion begin_checkpoint completed meant_by_create_table meant_by_drop_table meant_by_create_index meant_by_drop_index meant_by_create_bookmark meant_by_delete_bookmark meant_by_subscribe meant_by_unsubscribe meant_by_acknowledge backup_refusal meant_by_insert meant_by_update meant_by_delete meant_by_select catalog_of rows_of committed live in_use next_number holder other_holder holds_of first_entry before low due open_after big_endian standing
 more_rows_than_pages_told = refl
 
-more_rows_than_pages : replies more_rows_than_pages_lines forty_rows ≡
-    Changed 1
-    ∷ Refused (PermFull 32)
-    ∷ []
-more_rows_than_pages = replies-by (equals (codes "k") 40) (equals (codes "k") 40) (equals (codes "k") 40) more_rows_than_pages_lines forty_rows more_rows_than_pages_means ∙ more_rows_than_pages_told
+more_rows_than_pages : replies more_rows_than_pages_lines forty_rows ≡ more_rows_than_pages_replies
+more_rows_than_pages = replies-by (key_is 40 ∷ []) more_rows_than_pages_lines forty_rows (key_means 40, tt) ∙ more_rows_than_pages_told
 
 -- A row has at most 240 bytes.
 abbrev widths_lines : List Line
@@ -701,7 +545,7 @@ widths : replies widths_lines (start usual) ≡
     ∷ Changed 1
     ∷ Refused (TooWide 241)
     ∷ []
-unfolding begun with_entry all_forced reversals forced_for line with_copies with_all_copies with_completion begin_checkpoint completed meant_by_create_table meant_by_drop_table meant_by_create_index meant_by_drop_index meant_by_create_bookmark meant_by_delete_bookmark meant_by_subscribe meant_by_unsubscribe meant_by_acknowledge backup_refusal meant_by_insert meant_by_update meant_by_delete meant_by_select truth has_columns has_kinds catalog_of rows_of committed live in_use next_number holder other_holder holds_of first_entry before low due open_after be
+unfolding begun with_entry all_forced reversals forced_for line with_copies with_all_copies with_completion begin_checkpoint completed meant_by_create_table meant_by_drop_table meant_by_create_index meant_by_drop_index meant_by_create_bookmark meant_by_delete_bookmark meant_by_subscribe meant_by_unsubscribe meant_by_acknowledge backup_refusal meant_by_insert meant_by_update meant_by_delete meant_by_select truth has_columns has_kinds catalog_of rows_of committed live in_use next_number holder other_holder holds_of first_entry before low due open_after big_endian
 widths = refl
 
 -- A sum is taken exactly, and then tested.
@@ -721,7 +565,7 @@ sum_out_of_range : replies sum_out_of_range_lines (start usual) ≡
     ∷ Changed 1
     ∷ Refused OutOfRange
     ∷ []
-unfolding begun with_entry all_forced reversals forced_for line with_copies with_all_copies with_completion begin_checkpoint completed meant_by_create_table meant_by_drop_table meant_by_create_index meant_by_drop_index meant_by_create_bookmark meant_by_delete_bookmark meant_by_subscribe meant_by_unsubscribe meant_by_acknowledge backup_refusal meant_by_insert meant_by_update meant_by_delete meant_by_select truth has_columns has_kinds catalog_of rows_of committed live in_use next_number holder other_holder holds_of first_entry before low due open_after be
+unfolding begun with_entry all_forced reversals forced_for line with_copies with_all_copies with_completion begin_checkpoint completed meant_by_create_table meant_by_drop_table meant_by_create_index meant_by_drop_index meant_by_create_bookmark meant_by_delete_bookmark meant_by_subscribe meant_by_unsubscribe meant_by_acknowledge backup_refusal meant_by_insert meant_by_update meant_by_delete meant_by_select truth has_columns has_kinds catalog_of rows_of committed live in_use next_number holder other_holder holds_of first_entry before low due open_after big_endian
 sum_out_of_range = refl
 
 -- Refusals of tables and indexes.
@@ -744,7 +588,7 @@ tables_and_indexes : drop 5 (replies tables_and_indexes_lines (start durable)) �
     ∷ Refused NoIndex
     ∷ Refused KeyUpdate
     ∷ []
-unfolding begun with_entry all_forced reversals forced_for line with_copies with_all_copies with_completion begin_checkpoint completed meant_by_create_table meant_by_drop_table meant_by_create_index meant_by_drop_index meant_by_create_bookmark meant_by_delete_bookmark meant_by_subscribe meant_by_unsubscribe meant_by_acknowledge backup_refusal meant_by_insert meant_by_update meant_by_delete meant_by_select truth has_columns has_kinds catalog_of rows_of committed live in_use next_number holder other_holder holds_of first_entry before low due open_after be
+unfolding begun with_entry all_forced reversals forced_for line with_copies with_all_copies with_completion begin_checkpoint completed meant_by_create_table meant_by_drop_table meant_by_create_index meant_by_drop_index meant_by_create_bookmark meant_by_delete_bookmark meant_by_subscribe meant_by_unsubscribe meant_by_acknowledge backup_refusal meant_by_insert meant_by_update meant_by_delete meant_by_select truth has_columns has_kinds catalog_of rows_of committed live in_use next_number holder other_holder holds_of first_entry before low due open_after big_endian
 tables_and_indexes = refl
 
 -- The last file of the log is full: there is no place for a Commit, and none for a rollback at the end.
@@ -756,39 +600,12 @@ log_out : replies ((1, pair 1 1) ∷ (1, Bookmark) ∷ (1, Commit) ∷ []) last_
     ∷ Positions (position 999999 8192) (position 999999 8151) (position 0 0)
     ∷ Refused LogOut
     ∷ []
-unfolding begun with_entry all_forced reversals forced_for line with_copies with_all_copies with_completion begin_checkpoint completed meant_by_create_table meant_by_drop_table meant_by_create_index meant_by_drop_index meant_by_create_bookmark meant_by_delete_bookmark meant_by_subscribe meant_by_unsubscribe meant_by_acknowledge backup_refusal meant_by_insert meant_by_update meant_by_delete meant_by_select truth has_columns has_kinds catalog_of rows_of committed live in_use next_number holder other_holder holds_of first_entry before low due open_after be standing
+unfolding begun with_entry all_forced reversals forced_for line with_copies with_all_copies with_completion begin_checkpoint completed meant_by_create_table meant_by_drop_table meant_by_create_index meant_by_drop_index meant_by_create_bookmark meant_by_delete_bookmark meant_by_subscribe meant_by_unsubscribe meant_by_acknowledge backup_refusal meant_by_insert meant_by_update meant_by_delete meant_by_select truth has_columns has_kinds catalog_of rows_of committed live in_use next_number holder other_holder holds_of first_entry before low due open_after big_endian standing
 log_out = refl
 
 log_out_at_the_end : (ended (after ((1, pair 1 1) ∷ []) last_file)).0 ≡ false
-unfolding begun with_entry all_forced reversals forced_for line with_copies with_all_copies with_completion begin_checkpoint completed meant_by_create_table meant_by_drop_table meant_by_create_index meant_by_drop_index meant_by_create_bookmark meant_by_delete_bookmark meant_by_subscribe meant_by_unsubscribe meant_by_acknowledge backup_refusal meant_by_insert meant_by_update meant_by_delete meant_by_select truth has_columns has_kinds catalog_of rows_of committed live in_use next_number holder other_holder holds_of first_entry before low due open_after be standing ended
+unfolding begun with_entry all_forced reversals forced_for line with_copies with_all_copies with_completion begin_checkpoint completed meant_by_create_table meant_by_drop_table meant_by_create_index meant_by_drop_index meant_by_create_bookmark meant_by_delete_bookmark meant_by_subscribe meant_by_unsubscribe meant_by_acknowledge backup_refusal meant_by_insert meant_by_update meant_by_delete meant_by_select truth has_columns has_kinds catalog_of rows_of committed live in_use next_number holder other_holder holds_of first_entry before low due open_after big_endian standing ended
 log_out_at_the_end = refl
-
--- ---- a desk's day
-
-abbrev desk_lines : List Line
-desk_lines =
-    (1, CreateTable (codes "accounts") (column (codes "id") BigInt ∷ record { name = codes "owner"; kind = Varchar 30; required = true } ∷ record { name = codes "balance"; kind = NumberOf 4; required = true } ∷ []) (codes "id" ∷ []))
-    ∷ (1, CreateTable (codes "orders") (column (codes "id") BigInt ∷ record { name = codes "account"; kind = BigInt; required = true } ∷ column (codes "qty") BigInt ∷ column (codes "price") (NumberOf 4) ∷ []) (codes "id" ∷ []))
-    ∷ (1, CreateIndex (codes "orders_account") (codes "orders") (codes "account" ∷ []) false)
-    ∷ (1, XlaCreate (codes "feed"))
-    ∷ (1, XlaSubscribe (codes "orders") (codes "feed"))
-    ∷ (1, Insert (codes "accounts") (whole 1 ∷ Text (codes "Ada's desk") ∷ whole 1000 ∷ []))
-    ∷ (1, Insert (codes "accounts") (whole 2 ∷ Text (codes "Bo") ∷ Number 1 (pos 2505) ∷ []))
-    ∷ (1, Commit)
-    ∷ (2, Insert (codes "orders") (whole 10 ∷ whole 1 ∷ whole 100 ∷ Number 2 (pos 1225) ∷ []))
-    ∷ []
-
--- Where each of these lines leaves the end of the log.
-desk_positions : map (λ (p : Position). p.offset) (ends_after desk_lines (start usual)) ≡ 303 ∷ 685 ∷ 764 ∷ 847 ∷ 912 ∷ 966 ∷ 1012 ∷ 1021 ∷ 1080 ∷ []
-unfolding begun with_entry all_forced reversals forced_for line with_copies with_all_copies with_completion begin_checkpoint completed meant_by_create_table meant_by_drop_table meant_by_create_index meant_by_drop_index meant_by_create_bookmark meant_by_delete_bookmark meant_by_subscribe meant_by_unsubscribe meant_by_acknowledge backup_refusal meant_by_insert meant_by_update meant_by_delete meant_by_select truth has_columns has_kinds catalog_of rows_of committed live in_use next_number holder other_holder holds_of first_entry before low due open_after be
-desk_positions = refl
-
--- A number has its column's scale.
-desk_balances : replies ((3, Select (codes "accounts") (Columns (codes "balance" ∷ [])) None []) ∷ []) (after desk_lines (start usual)) ≡
-    Rows (row_of (Number 4 (pos 10000000) ∷ []) ∷ row_of (Number 4 (pos 2505000) ∷ []) ∷ [])
-    ∷ []
-unfolding begun with_entry all_forced reversals forced_for line with_copies with_all_copies with_completion begin_checkpoint completed meant_by_create_table meant_by_drop_table meant_by_create_index meant_by_drop_index meant_by_create_bookmark meant_by_delete_bookmark meant_by_subscribe meant_by_unsubscribe meant_by_acknowledge backup_refusal meant_by_insert meant_by_update meant_by_delete meant_by_select truth has_columns has_kinds catalog_of rows_of committed live in_use next_number holder other_holder holds_of first_entry before low due open_after be
-desk_balances = refl
 
 -- ---- opening
 
@@ -805,7 +622,7 @@ uncommitted_is_gone : replies uncommitted_is_gone_lines (again (after ((1, creat
     ∷ Refused DuplicateKey
     ∷ Positions (position 0 531) (position 0 530) (position 0 0)
     ∷ []
-unfolding begun with_entry all_forced reversals forced_for line with_copies with_all_copies with_completion begin_checkpoint completed meant_by_create_table meant_by_drop_table meant_by_create_index meant_by_drop_index meant_by_create_bookmark meant_by_delete_bookmark meant_by_subscribe meant_by_unsubscribe meant_by_acknowledge backup_refusal meant_by_insert meant_by_update meant_by_delete meant_by_select truth has_columns has_kinds catalog_of rows_of committed live in_use next_number holder other_holder holds_of first_entry before low due open_after be standing
+unfolding begun with_entry all_forced reversals forced_for line with_copies with_all_copies with_completion begin_checkpoint completed meant_by_create_table meant_by_drop_table meant_by_create_index meant_by_drop_index meant_by_create_bookmark meant_by_delete_bookmark meant_by_subscribe meant_by_unsubscribe meant_by_acknowledge backup_refusal meant_by_insert meant_by_update meant_by_delete meant_by_select truth has_columns has_kinds catalog_of rows_of committed live in_use next_number holder other_holder holds_of first_entry before low due open_after big_endian standing
 uncommitted_is_gone = refl
 
 -- The walk through two files, and its end; from the second one alone; and none where a file is absent.
@@ -815,11 +632,11 @@ in_files (suc zero) = Some (CommitEntry 2 ∷ [])
 in_files _ = None
 
 two_files : log_of in_files 0 ≡ Some (record { at = position 1 0; entry = CommitEntry 2 } ∷ record { at = position 0 1; entry = CommitEntry 1 } ∷ record { at = position 0 0; entry = MarkEntry } ∷ [], position 1 9)
-unfolding log_of be
+unfolding log_of big_endian
 two_files = refl
 
 one_file : log_of in_files 1 ≡ Some (record { at = position 1 0; entry = CommitEntry 2 } ∷ [], position 1 9)
-unfolding log_of be
+unfolding log_of big_endian
 one_file = refl
 
 no_file : log_of in_files 2 ≡ None
@@ -860,27 +677,21 @@ null_is_left_out_lines =
 abbrev not_five : Meaning
 not_five = negation (equals (codes "v") 5)
 
-null_is_left_out_means : told_lines null_is_left_out_lines ≡ lines_by not_five not_five not_five null_is_left_out_lines
-null_is_left_out_means = ap (λ (m : Meaning). lines_by m m m null_is_left_out_lines) (means-negation is_five ∙ ap negation (number_means (codes "v") 5))
-
-null_is_left_out_told : replies_told (lines_by not_five not_five not_five null_is_left_out_lines) (start usual) ≡
+abbrev null_is_left_out_replies : List Reply
+null_is_left_out_replies =
     Done
     ∷ Changed 1
     ∷ Changed 1
     ∷ Changed 1
     ∷ Rows (row_of (whole 2 ∷ []) ∷ [])
     ∷ []
-unfolding begun with_entry all_forced reversals forced_for line with_copies with_all_copies with_completion begin_checkpoint completed meant_by_create_table meant_by_drop_table meant_by_create_index meant_by_drop_index meant_by_create_bookmark meant_by_delete_bookmark meant_by_subscribe meant_by_unsubscribe meant_by_acknowledge backup_refusal meant_by_insert meant_by_update meant_by_delete meant_by_select catalog_of rows_of committed live in_use next_number holder other_holder holds_of first_entry before low due open_after be
+
+null_is_left_out_told : replies_told (lines_by (not_five ∷ []) null_is_left_out_lines) (start usual) ≡ null_is_left_out_replies
+unfolding begun with_entry all_forced reversals forced_for line with_copies with_all_copies with_completion begin_checkpoint completed meant_by_create_table meant_by_drop_table meant_by_create_index meant_by_drop_index meant_by_create_bookmark meant_by_delete_bookmark meant_by_subscribe meant_by_unsubscribe meant_by_acknowledge backup_refusal meant_by_insert meant_by_update meant_by_delete meant_by_select catalog_of rows_of committed live in_use next_number holder other_holder holds_of first_entry before low due open_after big_endian
 null_is_left_out_told = refl
 
-null_is_left_out : replies null_is_left_out_lines (start usual) ≡
-    Done
-    ∷ Changed 1
-    ∷ Changed 1
-    ∷ Changed 1
-    ∷ Rows (row_of (whole 2 ∷ []) ∷ [])
-    ∷ []
-null_is_left_out = replies-by not_five not_five not_five null_is_left_out_lines (start usual) null_is_left_out_means ∙ null_is_left_out_told
+null_is_left_out : replies null_is_left_out_lines (start usual) ≡ null_is_left_out_replies
+null_is_left_out = replies-by (not_five ∷ []) null_is_left_out_lines (start usual) (means-negation is_five ∙ ap negation (number_means (codes "v") 5), tt) ∙ null_is_left_out_told
 
 -- Numbers of any scales compare exactly; a key orders equal numbers by scale, an Int before a Number, Null after all.
 exact : compared (Number 1 (pos 25)) (Number 2 (pos 249)) ≡ Some (Some Greater)

@@ -25,7 +25,7 @@ pub record Grows (s after : State) : Type 0 where
   pub forced : s.forced ≤ length (trail s) → (s.forced ≤ after.forced) × (after.forced ≤ length (trail after))
   pub ordered : IsOrdered s.found.end s.entries → IsOrdered after.found.end after.entries
 
-assoc : (xs ys zs : Trail) → (xs ++ ys) ++ zs ≡ xs ++ (ys ++ zs)
+pub assoc : (xs ys zs : Trail) → (xs ++ ys) ++ zs ≡ xs ++ (ys ++ zs)
 assoc [] ys zs = refl
 assoc (x ∷ xs) ys zs = ap (x ∷◌) (assoc xs ys zs)
 
@@ -46,7 +46,7 @@ grows-then s mid after a b = record {
   ordered = λ o. b.ordered (a.ordered o);
 }
 
-grows-with_entry : (e : Entry) (s : State) → Grows s (with_entry e s)
+pub grows-with_entry : (e : Entry) (s : State) → Grows s (with_entry e s)
 unfolding with_entry
 grows-with_entry e s = record {
   found = refl;
@@ -58,12 +58,12 @@ grows-with_entry e s = record {
   ordered = ordered-with_entry e s;
 }
 
-grows-all_forced : (s : State) → Grows s (all_forced s)
+pub grows-all_forced : (s : State) → Grows s (all_forced s)
 unfolding all_forced
 grows-all_forced s = record { found = refl; newer = []; entries = refl; forced = λ h. (h, le_refl (length (trail s))); ordered = λ o. o }
 
 -- What stands beside the trail doesn't matter.
-grows-beside : (s after other : State) → other.found ≡ after.found → other.entries ≡ after.entries → other.forced ≡ after.forced → Grows s after → Grows s other
+pub grows-beside : (s after other : State) → other.found ≡ after.found → other.entries ≡ after.entries → other.forced ≡ after.forced → Grows s after → Grows s other
 grows-beside s after other f e n g = record {
   found = f ∙ g.found;
   newer = g.newer;

@@ -8,7 +8,10 @@ pub mod DeadLemmas
 pub mod DueLemmas
 pub mod EditLemmas
 pub mod EndLemmas
+mod DeskExample
+mod ExampleWords
 mod Examples
+mod LineExamples
 pub mod FileLemmas
 pub mod FirstBeforeLemmas
 pub mod HolderLemmas
@@ -23,6 +26,7 @@ pub mod OneHolderLemmas
 pub mod OneHolderLines
 pub mod OneHolderRounds
 pub mod OneHolderStatements
+pub mod OpeningLemmas
 pub mod OrderLemmas
 pub mod PlaceLemmas
 pub mod PositionLemmas
@@ -30,6 +34,7 @@ pub mod ReaderLemmas
 pub mod ReaderRuns
 pub mod RollbackLemmas
 pub mod RowLemmas
+pub mod RunLemmas
 pub mod SoundLemmas
 pub mod SoundLines
 pub mod StandingLemmas

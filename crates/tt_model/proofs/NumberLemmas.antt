@@ -1,9 +1,9 @@
 -- The next transaction's number is above each in the trail.
-use Rattle.std.proofs.Common.{◌≡◌, ◌<◌, ◌≤◌, inl, inr, ◌∙◌, ℕ, suc, Bool, true, false, nat_eq, [], ◌∷◌, max, sym, arith, true≢false}
+use Rattle.std.proofs.Common.{◌≡◌, ◌<◌, ◌≤◌, inl, inr, ◌∙◌, ℕ, suc, Bool, true, false, nat_eq, [], ◌∷◌, ◌++◌, max, sym, arith, true≢false}
 use Rattle.std.proofs.lemmas.Bool.{eqb-true, or_cases, and_parts, false_from_ne_true}
 use Rattle.tt_record.specs.declared.entry.Entry.{Entry}
 use Rattle.tt_record.specs.declared.entry.Entry.TheVariants.{Change, Commit, Abort, Mark, Switch}
-use Rattle.tt_model.specs.Trail.{Trail}
+use Rattle.tt_model.specs.Trail.{Trail, Placed}
 use Rattle.tt_model.specs.Live.{live, live_after, is_live, names, touched, after_number, next_number}
 use Rattle.std.specs.List.{list_any}
 use Rattle.std.specs.Prelude.{List}
@@ -51,3 +51,14 @@ next-not_live opened es = not_below (next_number opened es) (is_live (next_numbe
 
 pub next-untouched : (opened q : ℕ) (es : Trail) → touched (next_number opened es) q es ≡ false
 next-untouched opened q es = not_below (next_number opened es) (touched (next_number opened es) q es) (touched-below opened (next_number opened es) q es)
+
+-- It is above the number of each entry, and at least the one that opening found.
+pub next-above : (first : ℕ) (newer older : Trail) (e : Placed) → after_number e.entry ≤ next_number first (newer ++ e ∷ older)
+unfolding next_number
+next-above first [] older e = omega (arith)
+next-above first (x ∷ newer) older e = let below : after_number e.entry ≤ next_number first (newer ++ e ∷ older) = next-above first newer older e in omega (arith, below)
+
+pub next-least : (first : ℕ) (es : Trail) → first ≤ next_number first es
+unfolding next_number
+next-least first [] = omega (arith)
+next-least first (e ∷ es) = let below : first ≤ next_number first es = next-least first es in omega (arith, below)

@@ -11,7 +11,7 @@ use Rattle.tt_model.specs.State.{State, with_entry, write_position}
 same_number : (n : ℕ) → nat_cmp n n ≡ Equal
 same_number n = sym (nat_cmp_is n n Equal refl)
 
-less_number : (m n : ℕ) → m < n → nat_cmp m n ≡ Less
+pub less_number : (m n : ℕ) → m < n → nat_cmp m n ≡ Less
 less_number m n h = sym (nat_cmp_is m n Less h)
 
 onward : (fits : Bool) (end : Position) → position_le end (if fits then end else position (end.file + 1) 0) ≡ true

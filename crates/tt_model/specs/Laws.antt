@@ -13,7 +13,7 @@ use Rattle.tt_record.specs.declared.entry.Entry.TheVariants.{Change, Commit, Abo
 use Rattle.tt_set.specs.declared.settings.Settings.{Settings}
 use Rattle.tt_model.specs.Trail.{Trail, Placed, IsOrdered, placed_end, placed_length, trail_end, before, since}
 use Rattle.tt_model.specs.Committed.{Cells, put, changed_by, committed, current, is_full}
-use Rattle.tt_model.specs.Live.{live, with_number, without_number, is_live, touched, in_use, next_number}
+use Rattle.tt_model.specs.Live.{live, with_number, without_number, is_live, touched, in_use, view_of, after_number, next_number}
 use Rattle.tt_model.specs.Holders.{Held, has_held, is_held_by, other_holder, holder, HasOneHolder}
 use Rattle.tt_model.specs.Forced.{forced_for}
 use Rattle.tt_model.specs.Holds.{first_entry, first_entries, least_of, low}
@@ -42,28 +42,42 @@ pub record CommitsAlone : Type 0 where
   pub abort : (t : ℕ) (s : State) → cells_of (with_entry (Abort t) s) ≡ cells_of s
   pub mark : (s : State) → cells_of (with_entry Mark s) ≡ cells_of s
 
--- A session sees its own Changes at once and those of others at their Commit. At its own Commit the tables become its view.
+-- A session sees its own Changes at once, and those of others at their Commit, under its own. At its own Commit the tables become its
+-- view. An Abort and a Mark leave each view.
 pub record OwnChangesAreSeen : Type 0 where
   pub own : (session t p : ℕ) (b a : Cell) (s : State) → s.own session ≡ Some t → view session (with_entry (Change t p b a) s) ≡ put p a (view session s)
   pub without : (session t p : ℕ) (b a : Cell) (s : State) → s.own session ≡ None → view session (with_entry (Change t p b a) s) ≡ view session s
   pub others : (session t u p : ℕ) (b a : Cell) (s : State) → s.own session ≡ Some u → nat_eq u t ≡ false → view session (with_entry (Change t p b a) s) ≡ view session s
   pub commit : (session t : ℕ) (s : State) → s.own session ≡ Some t → cells_of (with_entry (Commit t) s) ≡ view session s
+  pub committed : (session t : ℕ) (s : State) → view session (with_entry (Commit t) s) ≡ view_of (s.own session) s.entries (cells_of (with_entry (Commit t) s))
+  pub abort : (session t : ℕ) (s : State) → view session (with_entry (Abort t) s) ≡ view session s
+  pub mark : (session : ℕ) (s : State) → view session (with_entry Mark s) ≡ view session s
 
--- A Change makes its transaction live, its Commit ends it, a Mark ends all; what stands before a Mark counts for nothing.
+-- A Change makes its transaction live, its Commit and its Abort end it, a Mark ends all; what stands before a Mark counts for nothing.
 pub record MarkEndsAll : Type 0 where
   pub change : (t p : ℕ) (b a : Cell) (s : State) → live_in (with_entry (Change t p b a) s) ≡ with_number t (live_in s)
   pub commit : (t : ℕ) (s : State) → live_in (with_entry (Commit t) s) ≡ without_number t (live_in s)
+  pub abort : (t : ℕ) (s : State) → live_in (with_entry (Abort t) s) ≡ without_number t (live_in s)
   pub mark : (s : State) → live_in (with_entry Mark s) ≡ []
   pub behind : (newer older : Trail) (at : Position) →
       live (newer ++ record { at = at; entry = Mark } ∷ older) ≡ live (newer ++ record { at = at; entry = Mark } ∷ [])
 
--- The next transaction's number is above each in the trail, so it is of no transaction that is live or changed a place.
+-- The next transaction's number is above each that is live or changed a place, so it is of none of these.
 pub record NextIsFresh : Type 0 where
   pub change : (t p : ℕ) (b a : Cell) (s : State) → next (with_entry (Change t p b a) s) ≡ max (suc t) (next s)
   pub above_touched : (first t q : ℕ) (es : Trail) → touched t q es ≡ true → t < next_number first es
   pub above_live : (first t : ℕ) (es : Trail) → is_live t es ≡ true → t < next_number first es
   pub not_live : (first : ℕ) (es : Trail) → is_live (next_number first es) es ≡ false
   pub untouched : (first q : ℕ) (es : Trail) → touched (next_number first es) q es ≡ false
+
+-- It is above the number of each entry in the trail, whatever its kind, and at least the one that opening found. A Commit and an Abort
+-- take it above their own numbers, a Mark leaves it.
+pub record NextIsAboveAll : Type 0 where
+  pub commit : (t : ℕ) (s : State) → next (with_entry (Commit t) s) ≡ max (suc t) (next s)
+  pub abort : (t : ℕ) (s : State) → next (with_entry (Abort t) s) ≡ max (suc t) (next s)
+  pub mark : (s : State) → next (with_entry Mark s) ≡ next s
+  pub above_each : (first : ℕ) (newer older : Trail) (e : Placed) → after_number e.entry ≤ next_number first (newer ++ e ∷ older)
+  pub above_found : (first : ℕ) (es : Trail) → first ≤ next_number first es
 
 -- An entry moves the forced part up to the earlier entries or not at all; it never falls, and never passes the trail.
 pub record ForcedNeverFalls : Type 0 where

@@ -3,7 +3,6 @@ pub mod Checkpoint
 pub mod Committed
 pub mod Conditions
 pub mod Due
-pub mod Engine
 pub mod Forced
 pub mod Found
 pub mod Holders
@@ -11,6 +10,7 @@ pub mod Holds
 pub mod Laws
 pub mod Live
 pub mod Meaning
+pub mod Opening
 pub mod Prefix
 pub mod Run
 pub mod Sets

@@ -30,6 +30,7 @@ pub record StandsForFirst (n : ℕ) (s : State) (f : Found) : Type 0 where
 abbrev pub StandsForPrefix : ℕ → State → Found → Type 0
 StandsForPrefix forced s f = (n : ℕ) × (forced ≤ n) × StandsForFirst n s f
 
--- What opening finds is one and the same in every map that a crash may leave, and in the present one.
-abbrev pub IsSettled : {M : Type 0} → (M → Option Found) → (M → Type 0) → M → Type 0
-IsSettled {M} opened may now = (f : Found) × (opened now ≡ Some f) × ((m : M) → may m → opened m ≡ Some f)
+-- What is read of the files is one and the same in every map that a crash may leave, and in the present one: what opening finds of the
+-- log and the images, or what a backup set stands for.
+abbrev pub IsSettled : {M R : Type 0} → (M → Option R) → (M → Type 0) → M → Type 0
+IsSettled {M} {R} read may now = (found : R) × (read now ≡ Some found) × ((m : M) → may m → read m ≡ Some found)

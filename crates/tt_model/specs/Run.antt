@@ -1,5 +1,5 @@
 -- A whole run: how it begins, its lines, and its end.
-use Rattle.std.specs.Prelude.{◌≡◌, ℕ, ◌/◌, Bool, true, false, ◌&&◌, ◌||◌, nat_eq, nat_lt, nat_le, List, [], ◌∷◌, length, unwrap_or, Option, Some, None, Result, if◌then◌else◌}
+use Rattle.std.specs.Prelude.{◌≡◌, ◌⊎◌, ℕ, ◌/◌, Bool, true, false, ◌&&◌, ◌||◌, nat_eq, nat_lt, nat_le, List, [], ◌∷◌, length, unwrap_or, Option, Some, None, Result, if◌then◌else◌}
 use Rattle.std.specs.List.{list_any}
 use Rattle.tt_value.specs.declared.refusal.Refusal.{Refusal}
 use Rattle.tt_value.specs.declared.reply.Reply.{Reply}
@@ -12,6 +12,7 @@ use Rattle.tt_model.specs.Live.{pages_named}
 use Rattle.tt_model.specs.Found.{Found, Head, newest_of, first_head}
 use Rattle.tt_model.specs.Sets.{SetStanding}
 use Rattle.tt_model.specs.State.{State, with_entry, all_forced, live_in, lengths_fit, write_position}
+use Rattle.tt_model.specs.Prefix.{StandsForPrefix}
 use Rattle.tt_model.specs.Step.{Step, rolled_back, rollback_lengths}
 
 -- The header of the newest whole file. Opening finds no database without one.
@@ -89,3 +90,23 @@ roll_all (t ∷ ts) s = elim (has_place t s) [ true ↦ roll_all ts (ended_one t
 -- A checkpoint under way is dropped.
 unfoldable pub ended : State → Bool × State
 ended s = roll_all (live_in s) (record s { underway = None })
+
+-- ---- a run that ended, at whatever moment
+
+-- What a run was to leave when it ended: what its answered lines leave; or what one more line would leave, which stopped; or what its
+-- end would leave, which stopped or was done. What the end does is given, since a crate may build it in parts.
+abbrev pub WasToLeave : (State → State) → State → State → Type 0
+WasToLeave end s last = (last ≡ s) ⊎ (((l : Line) × (reply : Reply) × Step s l.session l.what reply last) ⊎ (last ≡ end s))
+
+-- What may be found after a run, whichever way it ended. From its begin the answered lines lead to a state; it was to leave a last
+-- state; and what is found stands for the first entries of that one's trail, at least those that were forced before.
+pub record FoundAfter (end : State → State) (begin : State) (lines : List Line) (replies : List Reply) (f : Found) : Type 0 where
+  pub state : State
+  pub last : State
+  pub run : Run begin lines replies state
+  pub act : WasToLeave end state last
+  pub found : StandsForPrefix state.forced last f
+
+-- Where a round stopped behind its line and still gave the reply, it has at least what was forced behind the line, before the completion.
+abbrev pub FoundBehindLine : State → Line → Reply → State → Found → Type 0
+FoundBehindLine s l reply last f = (round : Step s l.session l.what reply last) × StandsForPrefix (round.between).forced last f

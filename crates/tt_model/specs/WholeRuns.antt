@@ -28,7 +28,8 @@ use Rattle.tt_model.specs.Step.{Step, is_refused}
 use Rattle.tt_set.specs.declared.settings.Settings.{Settings}
 use Rattle.tt_model.specs.Sets.{SetStanding}
 use Rattle.tt_model.specs.System.{bookmark}
-use Rattle.tt_model.specs.Run.{Line, Run, begun, ended}
+use Rattle.tt_model.specs.Prefix.{StandsForFirst}
+use Rattle.tt_model.specs.Run.{Line, Run, FoundAfter, begun, ended}
 
 -- ---- which log files are there
 
@@ -184,3 +185,34 @@ pub record HeldOnceStays : Type 0 where
   pub begun : (settings : Settings) (found : Found) (files : ℕ → Bool) (sets : ℕ → Option SetStanding) (catalog : Catalog) → HeldOnce catalog ((begun settings found files sets).entries)
   pub step : (s : State) (session : ℕ) (what : Result Command Refusal) (reply : Reply) (after : State) → IsSound s → HeldOnce (catalog s) s.entries →
       Step s session what reply after → HeldOnce (catalog s) after.entries
+
+-- That along a whole run, whatever its lines, each key and unique value of the tables and indexes which are there then has at most one
+-- holder. It is stated here, and no function carries it.
+abbrev pub HeldOnceInRuns : Type 0
+HeldOnceInRuns =
+    (settings : Settings) (found : Found) (files : ℕ → Bool) (sets : ℕ → Option SetStanding) (lines : List Line) (replies : List Reply) (after : State)
+    → IsSound (begun settings found files sets) → AreOfSessions lines → Run (begun settings found files sets) lines replies after
+    → HeldOnce (catalog after) after.entries
+
+-- ---- the trail of a run
+
+-- A state goes on from another: it has what was found there, and its new entries are those and newer ones; no less of the trail is forced.
+pub record GoesOn (s after : State) : Type 0 where
+  pub found : after.found ≡ s.found
+  pub newer : Trail
+  pub entries : after.entries ≡ newer ++ s.entries
+  pub forced : s.forced ≤ length (trail s) → s.forced ≤ after.forced
+
+-- So it is over each round, over each run, and at its end.
+pub record TrailsGoOn : Type 0 where
+  pub step : (s : State) (session : ℕ) (what : Result Command Refusal) (reply : Reply) (after : State) → Step s session what reply after → GoesOn s after
+  pub run : (lines : List Line) (replies : List Reply) (s after : State) → Run s lines replies after → GoesOn s after
+  pub end : (s : State) → GoesOn s ((ended s).1)
+
+-- What is found after a run of sessions, whichever way it ended, stands for first entries of its trail that have all that was forced behind
+-- the answered lines. Its end may be any that lets the trail go on.
+abbrev pub ForcedEntriesAreFound : Type 0
+ForcedEntriesAreFound =
+    (end : State → State) (begin : State) (lines : List Line) (replies : List Reply) (f : Found) (run : FoundAfter end begin lines replies f)
+    → ((s : State) → GoesOn s (end s)) → IsSound begin → ReadersHaveBookmarks begin → AreOfSessions lines
+    → (n : ℕ) × StandsForFirst n run.last f × (oldest run.state.forced (oldest n (trail run.last)) ≡ oldest run.state.forced (trail run.state))

@@ -1,6 +1,7 @@
 // The laws of the definitions.
-ghost use Rattle.tt_model.specs.Laws.{AtMostOneHolds, CheckpointsOpen, CommitsAlone, EntryIsAppended, ForcedNeverFalls, GrownIsSteady, LinesHaveAnswers, MarkEndsAll, NextIsFresh, OpeningFindsCommitted, OwnChangesAreSeen, PlacesAndFirstEntries, ReversedMayAbort, SeenRowsMayChange, StatesStaySound};
-ghost use Rattle.tt_model.specs.WholeRuns.{BookmarksStay, HeldOnceStays, LogFilesAreKept, ReadersGoInOrder, SelectsAreIsolated};
+ghost use Rattle.tt_model.specs.Laws.{AtMostOneHolds, CheckpointsOpen, CommitsAlone, EntryIsAppended, ForcedNeverFalls, GrownIsSteady, LinesHaveAnswers, MarkEndsAll, NextIsAboveAll, NextIsFresh, OpeningFindsCommitted, OwnChangesAreSeen, PlacesAndFirstEntries, ReversedMayAbort, SeenRowsMayChange, StatesStaySound};
+ghost use Rattle.tt_model.specs.Opening.{FirstImagesOpen};
+ghost use Rattle.tt_model.specs.WholeRuns.{BookmarksStay, ForcedEntriesAreFound, HeldOnceStays, LogFilesAreKept, ReadersGoInOrder, SelectsAreIsolated, TrailsGoOn};
 
 /// An entry stands at or behind the end of the last one, and the log then ends where it does.
 pub fn entry_is_appended()
@@ -12,7 +13,7 @@ pub fn commits_alone()
     ensures { CommitsAlone }
 {}
 
-/// A session sees its own changes at once, and those of others at their commit.
+/// A session sees its own changes at once, and those of others at their commit; aborts and marks leave its view.
 pub fn own_changes_are_seen()
     ensures { OwnChangesAreSeen }
 {}
@@ -22,9 +23,14 @@ pub fn mark_ends_all()
     ensures { MarkEndsAll }
 {}
 
-/// The next transaction's number is of no other.
+/// The next transaction's number is of no transaction that is live or changed a place.
 pub fn next_is_fresh()
     ensures { NextIsFresh }
+{}
+
+/// The next transaction's number is above that of each entry.
+pub fn next_is_above_all()
+    ensures { NextIsAboveAll }
 {}
 
 /// The forced part of the log only grows.
@@ -100,4 +106,19 @@ pub fn bookmarks_stay()
 /// Over every line, each key and unique value that tables and indexes had before it stays with at most one transaction.
 pub fn held_once_stays()
     ensures { HeldOnceStays }
+{}
+
+/// Over every line, over every run and at its end the trail goes on, and no less of it is forced.
+pub fn trails_go_on()
+    ensures { TrailsGoOn }
+{}
+
+/// Behind the empty image of a database that was just created, opening finds what its log alone stands for.
+pub fn first_images_open()
+    ensures { FirstImagesOpen }
+{}
+
+/// What is found after a run, whichever way it ended, has all entries that were forced behind its answered lines.
+pub fn forced_entries_are_found()
+    ensures { ForcedEntriesAreFound }
 {}

@@ -12,9 +12,10 @@ pub use entry_rules::{
 };
 pub use laws::{
     at_most_one_holds, bookmarks_stay, checkpoints_open, commits_alone, entry_is_appended,
-    forced_never_falls, grown_is_steady, held_once_stays, lines_have_answers, log_files_are_kept,
-    mark_ends_all, next_is_fresh, opening_finds_committed, own_changes_are_seen,
-    places_and_first_entries, readers_go_in_order, reversed_may_abort, seen_rows_may_change,
-    selects_are_isolated, states_stay_sound,
+    first_images_open, forced_entries_are_found, forced_never_falls, grown_is_steady,
+    held_once_stays, lines_have_answers, log_files_are_kept, mark_ends_all, next_is_above_all,
+    next_is_fresh, opening_finds_committed, own_changes_are_seen, places_and_first_entries,
+    readers_go_in_order, reversed_may_abort, seen_rows_may_change, selects_are_isolated,
+    states_stay_sound, trails_go_on,
 };
 pub use line_rules::takes_memory;

@@ -90,7 +90,7 @@ cut_open = record {
   whole = refl;
   no_blank = refl;
   small = lit< tt;
-  leaning = λ e. absurd cc;
+  unspaced = λ e. absurd cc;
   utf8 = ascii_one 40 (lit< tt);
   token = λ z m. single_token true 40 z refl refl refl refl refl m;
 }
@@ -102,20 +102,20 @@ cut_sign = record {
   whole = refl;
   no_blank = refl;
   small = lit< tt;
-  leaning = λ e. absurd cc;
+  unspaced = λ e. absurd cc;
   utf8 = ascii_one 45 (lit< tt);
   token = λ z m. single_token true 45 z refl refl refl refl refl m;
 }
 
 pub cut_single : (kind : Kind) (b : ℕ) → single b ≡ kind → is_in class.Digit b ≡ false → is_in class.Word b ≡ false → (b == 39) ≡ false → (b == 60) ≡ false → (b == 62) ≡ false →
-    is_in class.Blank b ≡ false → b < 128 → (spell.leans kind ≡ true → (b == 32 || b == 41 || b == 44) ≡ true) → Cut (spell.mark kind (b ∷ []))
-cut_single kind b s d w q l g n small leaning = record {
+    is_in class.Blank b ≡ false → b < 128 → (spell.is_unspaced kind ≡ true → (b == 32 || b == 41 || b == 44) ≡ true) → Cut (spell.mark kind (b ∷ []))
+cut_single kind b s d w q l g n small unspaced = record {
   head = b;
   tail = [];
   whole = refl;
   no_blank = n;
   small = small;
-  leaning = leaning;
+  unspaced = unspaced;
   utf8 = ascii_one b small;
   token = λ z m. single_token false b z d w q l g m ∙ ap (λ (a : Kind). (a, 1)) s;
 }
@@ -151,7 +151,7 @@ cut_less = record {
   whole = refl;
   no_blank = refl;
   small = lit< tt;
-  leaning = λ e. absurd cc;
+  unspaced = λ e. absurd cc;
   utf8 = ascii_one 60 (lit< tt);
   token = λ z m. rw (index_behind z m (λ b. b == 61) refl refl refl refl, index_behind z m (λ b. b == 62) refl refl refl refl) refl;
 }
@@ -164,7 +164,7 @@ cut_greater = record {
   whole = refl;
   no_blank = refl;
   small = lit< tt;
-  leaning = λ e. absurd cc;
+  unspaced = λ e. absurd cc;
   utf8 = ascii_one 62 (lit< tt);
   token = λ z m. rw (index_behind z m (λ b. b == 61) refl refl refl refl) refl;
 }
@@ -177,7 +177,7 @@ cut_not_equal = record {
   whole = refl;
   no_blank = refl;
   small = lit< tt;
-  leaning = λ e. absurd cc;
+  unspaced = λ e. absurd cc;
   utf8 = ascii_two 60 62 (lit< tt) (lit< tt);
   token = λ z m. refl;
 }
@@ -190,7 +190,7 @@ cut_less_equal = record {
   whole = refl;
   no_blank = refl;
   small = lit< tt;
-  leaning = λ e. absurd cc;
+  unspaced = λ e. absurd cc;
   utf8 = ascii_two 60 61 (lit< tt) (lit< tt);
   token = λ z m. refl;
 }
@@ -203,7 +203,7 @@ cut_greater_equal = record {
   whole = refl;
   no_blank = refl;
   small = lit< tt;
-  leaning = λ e. absurd cc;
+  unspaced = λ e. absurd cc;
   utf8 = ascii_two 62 61 (lit< tt) (lit< tt);
   token = λ z m. refl;
 }
@@ -254,7 +254,7 @@ cut_word (b ∷ w) h =
       whole = refl;
       no_blank = no_true (is_in class.Blank b) t.1;
       small = omega (arith, leb-true b 127 t.0);
-      leaning = λ e. absurd cc;
+      unspaced = λ e. absurd cc;
       utf8 = IsUtf8-from_ascii (b ∷ w) (all_ascii (b ∷ w) p.1);
       token = λ z m. word_token b w z (no_true (is_in class.Digit b) p.0) s.0 (all_words (b ∷ w) p.1) m;
     }
@@ -299,7 +299,7 @@ cut_digits (b ∷ ds) h some =
       whole = refl;
       no_blank = digit_no_blank b p.0;
       small = omega (arith, leb-true b 57 q.1);
-      leaning = λ e. absurd cc;
+      unspaced = λ e. absurd cc;
       utf8 = IsUtf8-from_ascii (b ∷ ds) (ascii_digits (b ∷ ds) h);
       token = λ z m. number_token b ds z (length (b ∷ ds)) p.0 (plain_len (b ∷ ds) z h m);
     }
@@ -340,7 +340,7 @@ cut_dotted (b ∷ x) y d e some more =
       whole = refl;
       no_blank = digit_no_blank b p.0;
       small = omega (arith, leb-true b 57 q.1);
-      leaning = λ e. absurd cc;
+      unspaced = λ e. absurd cc;
       utf8 = dotted_utf8 (b ∷ x) y d e;
       token = λ z m. number_token b (x ++ 46 ∷ y) z (length ((b ∷ x) ++ 46 ∷ y)) p.0 (dotted_all (b ∷ x) y z d e more m);
     }
@@ -403,7 +403,7 @@ cut_text t h = record {
   whole = refl;
   no_blank = refl;
   small = lit< tt;
-  leaning = λ e. absurd cc;
+  unspaced = λ e. absurd cc;
   utf8 = IsUtf8-append (39 ∷ []) (spell.doubled t ++ 39 ∷ []) (ascii_one 39 (lit< tt)) (IsUtf8-append (spell.doubled t) (39 ∷ []) (doubled_utf8 [] t h) (ascii_one 39 (lit< tt)));
   token = λ z m.
       quote_token (spell.doubled t ++ 39 ∷ []) z (length (spell.doubled t) + 1) (ap (text_rest false) (append_assoc (spell.doubled t) (39 ∷ []) z) ∙ rest_doubled t z m)

@@ -7,7 +7,7 @@ use Rattle.std.proofs.Math.Seq.{take-append_seam}
 use Rattle.tt_parse.specs.declared.kind.Kind.{Kind}
 use Rattle.tt_parse.specs.declared.lex.Class.TheVariants as class
 use Rattle.tt_parse.specs.Tokens.{Token, is_in, first, tokens_from}
-use Rattle.tt_parse.specs.Spelling.{Piece, leans, spaced, joined}
+use Rattle.tt_parse.specs.Spelling.{Piece, is_unspaced, spaced, joined}
 use Rattle.tt_parse.proofs.Pieces.{May, Cut, CutAll, ShowsAll}
 
 -- the rest of a token that began before
@@ -60,17 +60,17 @@ may_head : (joins : Bool) (b : ℕ) (x z : List ℕ) → b < 128 → (joins ≡ 
 may_head true b x z small close = small
 may_head false b x z small close = close refl
 
-may_next : (joins : Bool) (q : Piece) (c : Cut q) (z : List ℕ) (none : Bool) → (joins || leans q.kind) ≡ none → May joins ((if none then q.bytes else 32 ∷ q.bytes) ++ z)
+may_next : (joins : Bool) (q : Piece) (c : Cut q) (z : List ℕ) (none : Bool) → (joins || is_unspaced q.kind) ≡ none → May joins ((if none then q.bytes else 32 ∷ q.bytes) ++ z)
 may_next true q c z true e = subst (λ (y : List ℕ). May true (y ++ z)) (sym c.whole) c.small
 may_next true q c z false e = absurd cc
-may_next false q c z true e = subst (λ (y : List ℕ). May false (y ++ z)) (sym c.whole) (c.leaning e)
+may_next false q c z true e = subst (λ (y : List ℕ). May false (y ++ z)) (sym c.whole) (c.unspaced e)
 may_next false q c z false e = refl
 
 pub may_behind : (joins : Bool) (ps : List Piece) → CutAll ps → May joins (joined joins ps)
 unfolding joined
 may_behind true [] c = tt
 may_behind false [] c = tt
-may_behind joins (q ∷ ps) c = may_next joins q c.0 (joined q.joins ps) (joins || leans q.kind) refl
+may_behind joins (q ∷ ps) c = may_next joins q c.0 (joined q.joins ps) (joins || is_unspaced q.kind) refl
 
 -- ---- all pieces
 
@@ -87,7 +87,7 @@ pub shows_joined : (ps : List Piece) → CutAll ps → (joins : Bool) (at : ℕ)
 unfolding joined tokens_from
 shows_joined [] c joins at = tt
 shows_joined (p ∷ ps) c joins at =
-    shows_spaced (joins || leans p.kind) p c.0 at (joined p.joins ps) (may_behind p.joins ps c.1) ps (λ there. shows_joined ps c.1 p.joins there)
+    shows_spaced (joins || is_unspaced p.kind) p c.0 at (joined p.joins ps) (may_behind p.joins ps c.1) ps (λ there. shows_joined ps c.1 p.joins there)
 
 spaced_utf8 : (none : Bool) (x : List ℕ) → IsUtf8 x → IsUtf8 (if none then x else 32 ∷ x)
 spaced_utf8 true x h = h
@@ -96,4 +96,4 @@ spaced_utf8 false x h = IsUtf8-append (32 ∷ []) x (IsUtf8-from_ascii (32 ∷ [
 pub utf8_joined : (ps : List Piece) → CutAll ps → (joins : Bool) → IsUtf8 (joined joins ps)
 unfolding joined
 utf8_joined [] c joins = IsUtf8-nil
-utf8_joined (p ∷ ps) c joins = IsUtf8-append (spaced joins p) (joined p.joins ps) (spaced_utf8 (joins || leans p.kind) p.bytes c.0.utf8) (utf8_joined ps c.1 p.joins)
+utf8_joined (p ∷ ps) c joins = IsUtf8-append (spaced joins p) (joined p.joins ps) (spaced_utf8 (joins || is_unspaced p.kind) p.bytes c.0.utf8) (utf8_joined ps c.1 p.joins)

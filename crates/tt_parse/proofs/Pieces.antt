@@ -7,7 +7,7 @@ use Rattle.tt_parse.specs.Tokens.{Token, is_in, first}
 use Rattle.tt_parse.specs.Grammar.{nothing, one, ◌>>=◌, ◌or_else◌, many}
 use Rattle.tt_parse.specs.Script.{G}
 use Rattle.tt_parse.specs.Symbols.{undoubled, inside, has_dot, decimals}
-use Rattle.tt_parse.specs.Spelling.{Piece, leans}
+use Rattle.tt_parse.specs.Spelling.{Piece, is_unspaced}
 use Rattle.tt_parse.proofs.Exact.{append-[]}
 
 -- ---- pieces that are cut again where they end
@@ -24,7 +24,7 @@ pub record Cut (p : Piece) : Type 0 where
   pub whole : p.bytes ≡ head ∷ tail
   pub no_blank : is_in class.Blank head ≡ false
   pub small : head < 128
-  pub leaning : leans p.kind ≡ true → (head == 32 || head == 41 || head == 44) ≡ true
+  pub unspaced : is_unspaced p.kind ≡ true → (head == 32 || head == 41 || head == 44) ≡ true
   pub utf8 : IsUtf8 p.bytes
   pub token : (z : List ℕ) → May p.joins z → first (p.bytes ++ z) ≡ (p.kind, length p.bytes)
 

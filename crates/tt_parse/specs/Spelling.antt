@@ -67,14 +67,14 @@ abbrev pub sign : Piece
 sign = record { kind = k.Minus; bytes = codes "-"; joins = true }
 
 -- does no blank stand before it?
-abbrev pub leans : Kind → Bool
-leans k.Comma = true
-leans k.Close = true
-leans _ = false
+abbrev pub is_unspaced : Kind → Bool
+is_unspaced k.Comma = true
+is_unspaced k.Close = true
+is_unspaced _ = false
 
 -- a piece behind a blank or behind none
 abbrev pub spaced : Bool → Piece → List ℕ
-spaced joins p = if joins || leans p.kind then p.bytes else 32 ∷ p.bytes
+spaced joins p = if joins || is_unspaced p.kind then p.bytes else 32 ∷ p.bytes
 
 -- the pieces in a row, the first right behind what stands before it or not
 unfoldable pub joined : Bool → List Piece → List ℕ

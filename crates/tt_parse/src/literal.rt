@@ -45,7 +45,7 @@ fn text(alloc: Global, tokens: &mut Cursor<'_>) -> Result<Value, ParseError>
         return Err(ParseError::Off);
     }
     let plain = undouble(alloc, tokens.text())?;
-    let text = Text::of(alloc, plain.as_slice())?.unwrap();
+    let text = Text::from_vec(plain).unwrap();
     tokens.advance();
     Ok(Value::Text(text))
 }

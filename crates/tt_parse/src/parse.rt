@@ -133,9 +133,9 @@ fn parse_text(alloc: Global, line: &[u8]) -> Parsed
     parse_tokens(alloc, line)
 }
 
-/// Reads a line of at most 4,096 bytes.
+/// Reads a line whose places are numbers of 32 bits.
 pub fn parse_line(alloc: Global, line: &[u8]) -> LineKind
-    requires { length line.now ≤ 4096 }
+    requires { length line.now < 2 ^ 32 }
     // Blank and comment lines are skipped, and no others.
     ensures skip { parsing.IsSkip result ↔ (parsing.is_skipped line.now ≡ true) }
     // Else a line that isn't UTF-8 is off at its first byte that isn't.
@@ -148,7 +148,7 @@ pub fn parse_line(alloc: Global, line: &[u8]) -> LineKind
     // A line off the grammar is refused at its place, unless memory is wanting.
     ensures off { parsing.IfRun result (λ session what. IsUtf8 line.now → (behind : List Token) → IsOff script.line (tokens_of line.now) behind →
         what ≢ Err Refusal.NoMemory → what ≡ Err (Refusal.Syntax (place_in (length line.now) behind))) }
-    // The session is that of the prefix, also where the line is off the grammar, and else session 1.
+    // The session of a line that is UTF-8 is that of its prefix, also off the grammar, and else session 1.
     ensures session { parsing.IfRun result (λ session what. IsUtf8 line.now → parsing.IsSession (tokens_of line.now) session) }
     ensures within { parsing.IfRun result (λ session what. (1 ≤ session) × (session ≤ 64)) }
     // Each command is one that a line gives.

@@ -17,8 +17,8 @@ pub enum Place {
 }
 
 /// Does no blank stand before a token of this kind?
-fn leans(kind: Kind) -> bool
-    ensures { result ≡ spell.leans kind }
+fn is_unspaced(kind: Kind) -> bool
+    ensures { result ≡ spell.is_unspaced kind }
 {
     match kind {
         Kind::Comma | Kind::Close => true,
@@ -77,7 +77,7 @@ impl Printer {
     pub fn token(&mut self, kind: Kind, bytes: &[u8]) -> Result<(), AllocError>
         ensures { OnOk result (self.new ≡ put self.old (spell.mark kind bytes.now)) }
     {
-        let is_spaced = !(self.joins || leans(kind));
+        let is_spaced = !(self.joins || is_unspaced(kind));
         self.space(is_spaced)?;
         self.bytes.extend_from_slice(bytes)?;
         self.joins = false;

@@ -180,6 +180,7 @@ fn definitions_off_the_grammar(rt: HostRuntime) -> Result<(), Fail> {
             "create table t (k bigint^)",
             "create table t (k bigint ^null",
             "create table t (k bigint not ^, primary key (k))",
+            "create table t (k bigint not null ^null, primary key (k))",
             "create table t (k bigint, ^)",
             "create table t (k bigint, primary ^(k))",
             "create table t (k bigint, primary key ^k)",
@@ -241,6 +242,7 @@ fn changes_off_the_grammar(rt: HostRuntime) -> Result<(), Fail> {
             "insert into t values (^9223372036854775808)",
             "insert into t values (-^9223372036854775809)",
             "insert into t values (^92233720368547758.08)",
+            "insert into t values (-^92233720368547758.09)",
             "insert into t values (^18446744073709551616)",
             "insert into t values (^0.0000000000000000001)",
             "insert into t values (1^.)",
@@ -289,6 +291,7 @@ fn changes_off_the_grammar(rt: HostRuntime) -> Result<(), Fail> {
             "delete from t where a = 1^)",
             "delete from t where not ^1",
             "delete from t where a = 1 and ^or b = 2",
+            "delete from t where a = 1 or ^and b = 2",
             "delete from t where a = ^(1)",
             "delete from t where a ^!= 1",
             "delete from t where a < ^> 1",
@@ -319,6 +322,7 @@ fn other_commands_off_the_grammar(rt: HostRuntime) -> Result<(), Fail> {
             "select sum(^*) from t",
             "select sum(a^, b) from t",
             "select count(*) ^t",
+            "select count(*) from ^1",
             "select count(*) from t ^order by a",
             "select * from ^",
             "select * from t ^t",
@@ -660,6 +664,68 @@ fn commands_are_spelled_in_one_way(rt: HostRuntime) -> Result<(), Fail> {
         ("ttxlanextupdate 0010", "ttXlaNextUpdate 10"),
         ("ttxlaacknowledge", "ttXlaAcknowledge"),
         ("ttxlaclose", "ttXlaClose"),
+        (
+            "create table accounts (id bigint, owner varchar(30) not null, balance number(18,4) not null, primary key (id))",
+            "create table accounts (id bigint, owner varchar (30) not null, balance number (18, 4) not null, primary key (id))",
+        ),
+        (
+            "create table orders (id bigint, account bigint not null, qty bigint, price number(18,4), primary key (id))",
+            "create table orders (id bigint, account bigint not null, qty bigint, price number (18, 4), primary key (id))",
+        ),
+        (
+            "create index orders_account on orders (account)",
+            "create index orders_account on orders (account)",
+        ),
+        ("ttXlaBookmarkCreate feed", "ttXlaBookmarkCreate feed"),
+        ("ttXlaSubscribe orders feed", "ttXlaSubscribe orders feed"),
+        (
+            "@1 insert into accounts values (1, 'Ada''s desk', 1000)",
+            "insert into accounts values (1, 'Ada''s desk', 1000)",
+        ),
+        (
+            "@1 insert into accounts values (2, 'Bo', 250.5)",
+            "insert into accounts values (2, 'Bo', 250.5)",
+        ),
+        ("@1 commit", "commit"),
+        (
+            "@2 insert into orders values (10, 1, 100, 12.25)",
+            "insert into orders values (10, 1, 100, 12.25)",
+        ),
+        (
+            "@2 update accounts set balance = balance - 125.5 where id = 1",
+            "update accounts set balance = balance - 125.5 where id = 1",
+        ),
+        (
+            "@3 select balance from accounts where id = 1",
+            "select balance from accounts where id = 1",
+        ),
+        (
+            "@3 update accounts set balance = 0 where owner = 'Ada''s desk'",
+            "update accounts set balance = 0 where owner = 'Ada''s desk'",
+        ),
+        (
+            "@2 select * from accounts order by balance desc",
+            "select * from accounts order by balance desc",
+        ),
+        ("@1 ttCkpt", "ttCkpt"),
+        (
+            "@3 insert into orders values (11, 2, null, null)",
+            "insert into orders values (11, 2, null, null)",
+        ),
+        (
+            "@3 select count(*), sum(qty) from orders",
+            "select count (*), sum (qty) from orders",
+        ),
+        ("@3 ttXlaOpen feed", "ttXlaOpen feed"),
+        ("@3 ttXlaNextUpdate 10", "ttXlaNextUpdate 10"),
+        ("@3 ttXlaAcknowledge", "ttXlaAcknowledge"),
+        ("@3 ttLogHolds", "ttLogHolds"),
+        ("@3 flush", "flush"),
+        ("@1 ttBookmark", "ttBookmark"),
+        (
+            "@2 select id from orders where not qty = 5",
+            "select id from orders where not qty = 5",
+        ),
     ] {
         let spelling = spelling_of(&rt, alloc, line.as_bytes())?;
         assert_eq!(rt; spelling.as_slice(), want.as_bytes());

@@ -1,7 +1,7 @@
 -- Entries of the log as bytes: a kind, then the fields. Whole numbers have their highest byte first.
 use Rattle.std.specs.Prelude.{◌≡◌, ◌≤◌, ◌<◌, ◌^◌, ◌==◌, ℕ, Bool, true, false, List, [], ◌∷◌, ◌++◌, length, drop}
 use Rattle.std.specs.List.{flat_map, All}
-use Rattle.tt_value.specs.Words.{be}
+use Rattle.tt_value.specs.Words.{big_endian}
 use Rattle.tt_value.specs.Stored.{row_bytes, IsStorable}
 use Rattle.tt_value.specs.declared.value.Row.{Row}
 use Rattle.tt_value.specs.declared.value.Cell.{Cell}
@@ -11,18 +11,18 @@ use Rattle.tt_record.specs.declared.entry.Entry.TheVariants.{Change, Commit, Abo
 
 -- a table's id, the length of a row, and the row
 abbrev pub full_bytes : ℕ → Row → List ℕ
-full_bytes table row = 1 ∷ (be 4 table ++ (be 2 (length (row_bytes row)) ++ row_bytes row))
+full_bytes table row = 1 ∷ (big_endian 4 table ++ (big_endian 2 (length (row_bytes row)) ++ row_bytes row))
 
 abbrev pub cell_bytes : Cell → List ℕ
 cell_bytes Empty = 0 ∷ []
 cell_bytes (Full table row) = full_bytes table row
 
 abbrev pub entry_bytes : Entry → List ℕ
-entry_bytes (Change transaction place before after) = 1 ∷ (be 8 transaction ++ (be 4 place ++ (cell_bytes before ++ cell_bytes after)))
-entry_bytes (Commit transaction) = 2 ∷ be 8 transaction
-entry_bytes (Abort transaction) = 3 ∷ be 8 transaction
+entry_bytes (Change transaction place before after) = 1 ∷ (big_endian 8 transaction ++ (big_endian 4 place ++ (cell_bytes before ++ cell_bytes after)))
+entry_bytes (Commit transaction) = 2 ∷ big_endian 8 transaction
+entry_bytes (Abort transaction) = 3 ∷ big_endian 8 transaction
 entry_bytes Mark = 4 ∷ []
-entry_bytes (Switch file) = 5 ∷ be 4 file
+entry_bytes (Switch file) = 5 ∷ big_endian 4 file
 
 abbrev pub length_of : Entry → ℕ
 length_of e = length (entry_bytes e)

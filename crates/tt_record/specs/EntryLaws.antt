@@ -1,14 +1,15 @@
 -- What is read at the front of bytes is what stands there.
-use Rattle.std.proofs.Common.{◌≡◌, ◌≤◌, ◌<◌, ◌+◌, ◌^◌, ◌==◌, ℕ, suc, Bool, true, false, ◌&&◌, List, [], ◌∷◌, ◌++◌, length, take, drop, nat_le, nat_lt, if◌then◌else◌, refl, sym, ap, ap₂, ◌∙◌, subst, arith, append_assoc, length-append, le-leb, inl, inr, ◌⊎◌, Option, Some, None}
+use Rattle.std.proofs.Common.{◌≡◌, ◌≤◌, ◌<◌, ◌+◌, ◌*◌, ◌^◌, ◌==◌, ℕ, suc, Bool, true, false, ◌&&◌, List, [], ◌∷◌, ◌++◌, length, take, drop, nat_le, nat_lt, if◌then◌else◌, refl, sym, ap, ap₂, ◌∙◌, subst, arith, append_assoc, length-append, le-leb, inl, inr, ◌⊎◌, Option, Some, None}
 use Rattle.std.proofs.lemmas.Bool.{leb-true, ltb-true, lt-ltb, eqb-true}
 use Rattle.std.proofs.lemmas.List.{take-append-drop, drop-drop, length-drop, length-take-le}
 use Rattle.std.proofs.Math.Seq.{take-append_seam, drop-append_seam}
 use Rattle.byteorder.specs.Numbers.{big_from-lt}
-use Rattle.tt_value.specs.Words.{be, number}
-use Rattle.tt_value.specs.WordLaws.{AreBytes, length-be, number-be, drop-be, be-number_2, be-number_4, be-number_8, take_bytes, drop_bytes}
+use Rattle.tt_value.specs.Words.{big_endian, number}
+use Rattle.tt_value.specs.WordLaws.{AreBytes, length-big_endian, number-big_endian, drop-big_endian, big_endian-number_2, big_endian-number_4, big_endian-number_8, take_bytes, drop_bytes}
 use Rattle.tt_value.specs.Stored.{row_bytes, IsStorable, IsStored}
 use Rattle.tt_value.specs.StoredLaws.{read_is_stored, stored_is_read}
 use Rattle.tt_value.specs.ReadingRows.{row_in}
+use Rattle.tt_value.specs.declared.TheConstants.{ROW_MAX}
 use Rattle.tt_value.specs.declared.value.Row.{Row}
 use Rattle.tt_value.specs.declared.value.Cell.{Cell}
 use Rattle.tt_value.specs.declared.value.Cell.TheVariants.{Empty, Full}
@@ -54,18 +55,18 @@ pub record TakesCell (z : List ℕ) (c : Cell) (k : ℕ) : Type 0 where
 
 -- a table's id, a row's length, the row and the rest are the whole
 full_parts : (z row : List ℕ) (size : ℕ) → size ≡ number 2 (drop 4 z) → row ≡ take size (drop 6 z) → size + 6 ≤ length z → AreBytes z →
-    (be 4 (number 4 z) ++ (be 2 (length row) ++ row)) ++ drop (size + 6) z ≡ z
+    (big_endian 4 (number 4 z) ++ (big_endian 2 (length row) ++ row)) ++ drop (size + 6) z ≡ z
 full_parts z row size is cut long b =
     let l : length row ≡ size = ap length cut ∙ length-take-le size (drop 6 z) (omega (arith, length-drop 6 z)) in
-    let four : be 4 (number 4 z) ≡ take 4 z = be-number_4 z (omega arith) b in
-    let two : be 2 (length row) ≡ take 2 (drop 4 z) = ap (be 2) (l ∙ is) ∙ be-number_2 (drop 4 z) (omega (arith, length-drop 4 z)) (drop_bytes 4 z b) in
+    let four : big_endian 4 (number 4 z) ≡ take 4 z = big_endian-number_4 z (omega arith) b in
+    let two : big_endian 2 (length row) ≡ take 2 (drop 4 z) = ap (big_endian 2) (l ∙ is) ∙ big_endian-number_2 (drop 4 z) (omega (arith, length-drop 4 z)) (drop_bytes 4 z b) in
     let rest : drop (size + 6) z ≡ drop size (drop 6 z) = ap (λ k. drop k z) (let e : size + 6 ≡ 6 + size = omega arith in e) ∙ sym (drop-drop size 6 z) in
     let behind_four : take 2 (drop 4 z) ++ (row ++ drop (size + 6) z) ≡ drop 4 z =
     ap₂ (λ x y. take 2 (drop 4 z) ++ (x ++ y)) cut rest
     ∙ ap (λ l. take 2 (drop 4 z) ++ l) (take-append-drop size (drop 6 z) ∙ sym (drop-drop 2 4 z))
     ∙ take-append-drop 2 (drop 4 z) in
-    append_assoc (be 4 (number 4 z)) (be 2 (length row) ++ row) (drop (size + 6) z)
-    ∙ ap (λ l. be 4 (number 4 z) ++ l) (append_assoc (be 2 (length row)) row (drop (size + 6) z))
+    append_assoc (big_endian 4 (number 4 z)) (big_endian 2 (length row) ++ row) (drop (size + 6) z)
+    ∙ ap (λ l. big_endian 4 (number 4 z) ++ l) (append_assoc (big_endian 2 (length row)) row (drop (size + 6) z))
     ∙ ap₂ (λ x y. x ++ (y ++ (row ++ drop (size + 6) z))) four two
     ∙ ap (λ l. take 4 z ++ l) behind_four
     ∙ take-append-drop 4 z
@@ -78,8 +79,8 @@ full_from z r some long stored b =
     let l : length row ≡ size = ap length (sym stored.1) ∙ length-take-le size (drop 6 z) (omega (arith, length-drop 6 z)) in
     let past : drop (size + 7) (1 ∷ z) ≡ drop (size + 6) z = ap (λ k. drop k (1 ∷ z)) (let k : size + 7 ≡ suc (size + 6) = omega arith in k) in
     record {
-      bytes = sym (ap (λ l. 1 ∷ ((be 4 (number 4 z) ++ (be 2 (length row) ++ row)) ++ l)) past ∙ ap (λ l. 1 ∷ l) (full_parts z row size refl (sym stored.1) long b));
-      count = omega (arith, l, length-append (be 4 (number 4 z)) (be 2 (length row) ++ row), length-be 4 (number 4 z), length-append (be 2 (length row)) row, length-be 2 (length row));
+      bytes = sym (ap (λ l. 1 ∷ ((big_endian 4 (number 4 z) ++ (big_endian 2 (length row) ++ row)) ++ l)) past ∙ ap (λ l. 1 ∷ l) (full_parts z row size refl (sym stored.1) long b));
+      count = omega (arith, l, length-append (big_endian 4 (number 4 z)) (big_endian 2 (length row) ++ row), length-big_endian 4 (number 4 z), length-append (big_endian 2 (length row)) row, length-big_endian 2 (length row));
       range = (some, number_below_4 z b, stored.0);
     }
   where
@@ -177,7 +178,7 @@ entry_same z x y e t = let P : Entry × ℕ → Type 0 = λ p. Takes z p.0 p.1 i
 -- a transaction's number stands at the front
 pub record TakesTransaction (z : List ℕ) (t : ℕ) : Type 0 where
   pub long : 8 ≤ length z
-  pub bytes : z ≡ be 8 t ++ drop 8 z
+  pub bytes : z ≡ big_endian 8 t ++ drop 8 z
   pub range : IsTransaction t
 
 takes_transaction : (z : List ℕ) (t : ℕ) → AreBytes z → transaction_at z ≡ Some t → TakesTransaction z t
@@ -190,7 +191,7 @@ takes_transaction z t b e =
     let P : ℕ → Type 0 = λ n. TakesTransaction z n in
     subst P (same_Some (number 8 z) t same) (record {
       long = long;
-      bytes = sym (ap (λ l. l ++ drop 8 z) (be-number_8 z long b) ∙ take-append-drop 8 z);
+      bytes = sym (ap (λ l. l ++ drop 8 z) (big_endian-number_8 z long b) ∙ take-append-drop 8 z);
       range = (leb-true 1 (number 8 z) some, ltb-true (number 8 z) (2 ^ 48) below);
     })
 
@@ -198,13 +199,13 @@ takes_commit : (z : List ℕ) (o : Option ℕ) (y : Entry × ℕ) → AreBytes z
 takes_commit z None y b is e = cc
 takes_commit z (Some t) y b is e =
     let h = takes_transaction z t b is in
-    entry_same (2 ∷ z) (Commit t, 9) y e (taken (2 ∷ z) (Commit t) 9 h.range (ap (λ l. 2 ∷ l) h.bytes) (omega (arith, length-be 8 t)))
+    entry_same (2 ∷ z) (Commit t, 9) y e (taken (2 ∷ z) (Commit t) 9 h.range (ap (λ l. 2 ∷ l) h.bytes) (omega (arith, length-big_endian 8 t)))
 
 takes_abort : (z : List ℕ) (o : Option ℕ) (y : Entry × ℕ) → AreBytes z → transaction_at z ≡ o → aborted o ≡ Some y → Takes (3 ∷ z) y.0 y.1
 takes_abort z None y b is e = cc
 takes_abort z (Some t) y b is e =
     let h = takes_transaction z t b is in
-    entry_same (3 ∷ z) (Abort t, 9) y e (taken (3 ∷ z) (Abort t) 9 h.range (ap (λ l. 3 ∷ l) h.bytes) (omega (arith, length-be 8 t)))
+    entry_same (3 ∷ z) (Abort t, 9) y e (taken (3 ∷ z) (Abort t) 9 h.range (ap (λ l. 3 ∷ l) h.bytes) (omega (arith, length-big_endian 8 t)))
 
 abbrev entry_with : Entry → ℕ → Entry × ℕ
 entry_with e k = (e, k)
@@ -218,20 +219,20 @@ takes_switch z y b e =
     let (four, same) = found (nat_le 4 (length z)) (Some (Switch (number 4 z), 5)) y e in
     let long : 4 ≤ length z = leb-true 4 (length z) four in
     entry_same (5 ∷ z) (Switch (number 4 z), 5) y same (taken (5 ∷ z) (Switch (number 4 z)) 5 (number-below 4 z b)
-    (ap (λ l. 5 ∷ l) (sym (ap (λ l. l ++ drop 4 z) (be-number_4 z long b) ∙ take-append-drop 4 z))) (omega (arith, length-be 4 (number 4 z))))
+    (ap (λ l. 5 ∷ l) (sym (ap (λ l. l ++ drop 4 z) (big_endian-number_4 z long b) ∙ take-append-drop 4 z))) (omega (arith, length-big_endian 4 (number 4 z))))
 
 -- a place and two cells behind a transaction's number
-change_parts : (t : ℕ) (z cells : List ℕ) (k : ℕ) → 4 ≤ length (drop 8 z) → AreBytes z → z ≡ be 8 t ++ drop 8 z → drop 4 (drop 8 z) ≡ cells ++ drop k (drop 4 (drop 8 z))
-    → 1 ∷ z ≡ (1 ∷ (be 8 t ++ (be 4 (number 4 (drop 8 z)) ++ cells))) ++ drop (13 + k) (1 ∷ z)
+change_parts : (t : ℕ) (z cells : List ℕ) (k : ℕ) → 4 ≤ length (drop 8 z) → AreBytes z → z ≡ big_endian 8 t ++ drop 8 z → drop 4 (drop 8 z) ≡ cells ++ drop k (drop 4 (drop 8 z))
+    → 1 ∷ z ≡ (1 ∷ (big_endian 8 t ++ (big_endian 4 (number 4 (drop 8 z)) ++ cells))) ++ drop (13 + k) (1 ∷ z)
 change_parts t z cells k four b eight rest =
-    let p = be 4 (number 4 (drop 8 z)) in
-    let place : drop 8 z ≡ p ++ drop 4 (drop 8 z) = sym (ap (λ l. l ++ drop 4 (drop 8 z)) (be-number_4 (drop 8 z) four (drop_bytes 8 z b)) ∙ take-append-drop 4 (drop 8 z)) in
+    let p = big_endian 4 (number 4 (drop 8 z)) in
+    let place : drop 8 z ≡ p ++ drop 4 (drop 8 z) = sym (ap (λ l. l ++ drop 4 (drop 8 z)) (big_endian-number_4 (drop 8 z) four (drop_bytes 8 z b)) ∙ take-append-drop 4 (drop 8 z)) in
     let past : drop k (drop 4 (drop 8 z)) ≡ drop (12 + k) z = ap (drop k) (drop-drop 4 8 z) ∙ drop-drop k 12 z in
     let last : drop (12 + k) z ≡ drop (13 + k) (1 ∷ z) = ap (λ n. drop n (1 ∷ z)) (let n : suc (12 + k) ≡ 13 + k = omega arith in n) in
     ap (λ l. 1 ∷ l) (
     eight
-    ∙ ap (λ l. be 8 t ++ l) (place ∙ ap (λ l. p ++ l) (rest ∙ ap (λ l. cells ++ l) (past ∙ last)) ∙ sym (append_assoc p cells (drop (13 + k) (1 ∷ z))))
-    ∙ sym (append_assoc (be 8 t) (p ++ cells) (drop (13 + k) (1 ∷ z))))
+    ∙ ap (λ l. big_endian 8 t ++ l) (place ∙ ap (λ l. p ++ l) (rest ∙ ap (λ l. cells ++ l) (past ∙ last)) ∙ sym (append_assoc p cells (drop (13 + k) (1 ∷ z))))
+    ∙ sym (append_assoc (big_endian 8 t) (p ++ cells) (drop (13 + k) (1 ∷ z))))
 
 takes_changed : (t : ℕ) (z : List ℕ) (o : Option (Cell × Cell × ℕ)) (y : Entry × ℕ) → AreBytes z → TakesTransaction z t → 4 ≤ length (drop 8 z) → number 4 (drop 8 z) < 2097152 → cells_at (drop 4 (drop 8 z)) ≡ o
     → change_of t (number 4 (drop 8 z)) o ≡ Some y → Takes (1 ∷ z) y.0 y.1
@@ -243,7 +244,7 @@ takes_changed t z (Some (before, after, k)) y b h four low is e =
     entry_same (1 ∷ z) (Change t p before after, 13 + k) y e (taken (1 ∷ z) (Change t p before after) (13 + k)
     (record { transaction = h.range; place = low; before = cells.before; after = cells.after; table = cells.table })
     (change_parts t z both_bytes k four b h.bytes cells.bytes)
-    (omega (arith, cells.count, length-append (be 8 t) (be 4 p ++ both_bytes), length-be 8 t, length-append (be 4 p) both_bytes, length-be 4 p)))
+    (omega (arith, cells.count, length-append (big_endian 8 t) (big_endian 4 p ++ both_bytes), length-big_endian 8 t, length-append (big_endian 4 p) both_bytes, length-big_endian 4 p)))
 
 takes_placed : (t : ℕ) (z : List ℕ) (y : Entry × ℕ) → AreBytes z → TakesTransaction z t → changed_at t (drop 8 z) ≡ Some y → Takes (1 ∷ z) y.0 y.1
 unfolding changed_at
@@ -275,26 +276,26 @@ takes (kind ∷ z) y b e =
 
 -- ---- what is written is read again, whatever follows it
 
-transaction_again : (t : ℕ) (more : List ℕ) → IsTransaction t → transaction_at (be 8 t ++ more) ≡ Some t
+transaction_again : (t : ℕ) (more : List ℕ) → IsTransaction t → transaction_at (big_endian 8 t ++ more) ≡ Some t
 unfolding transaction_at
 transaction_again t more range =
-    let same : number 8 (be 8 t ++ more) ≡ t = number-be 8 t more (omega (arith, range.1)) in
-    let long : nat_le 8 (length (be 8 t ++ more)) ≡ true = le-leb 8 (length (be 8 t ++ more)) (omega (arith, length-append (be 8 t) more, length-be 8 t)) in
+    let same : number 8 (big_endian 8 t ++ more) ≡ t = number-big_endian 8 t more (omega (arith, range.1)) in
+    let long : nat_le 8 (length (big_endian 8 t ++ more)) ≡ true = le-leb 8 (length (big_endian 8 t ++ more)) (omega (arith, length-append (big_endian 8 t) more, length-big_endian 8 t)) in
     rw (same, long, le-leb 1 t range.0, lt-ltb t (2 ^ 48) range.1) refl
 
 -- the bytes of a full cell behind its tag, and what they give
-full_again : (table : ℕ) (row : Row) (more : List ℕ) → 1 ≤ table → table < 2 ^ 32 → IsStorable row → full_at ((be 4 table ++ (be 2 (length (row_bytes row)) ++ row_bytes row)) ++ more) ≡ Some (cell_with (Full table row) (length (row_bytes row) + 7))
+full_again : (table : ℕ) (row : Row) (more : List ℕ) → 1 ≤ table → table < 2 ^ 32 → IsStorable row → full_at ((big_endian 4 table ++ (big_endian 2 (length (row_bytes row)) ++ row_bytes row)) ++ more) ≡ Some (cell_with (Full table row) (length (row_bytes row) + 7))
 unfolding full_at
 full_again table row more some below storable =
     let n = length (row_bytes row) in
-    let z = (be 4 table ++ (be 2 n ++ row_bytes row)) ++ more in
-    let flat : z ≡ be 4 table ++ (be 2 n ++ (row_bytes row ++ more)) = append_assoc (be 4 table) (be 2 n ++ row_bytes row) more ∙ ap (λ l. be 4 table ++ l) (append_assoc (be 2 n) (row_bytes row) more) in
-    let first : number 4 z ≡ table = ap (number 4) flat ∙ number-be 4 table (be 2 n ++ (row_bytes row ++ more)) below in
-    let behind_table : drop 4 z ≡ be 2 n ++ (row_bytes row ++ more) = ap (drop 4) flat ∙ drop-be 4 table (be 2 n ++ (row_bytes row ++ more)) in
-    let size : number 2 (drop 4 z) ≡ n = ap (number 2) behind_table ∙ number-be 2 n (row_bytes row ++ more) (omega (arith, storable.short)) in
-    let behind_size : drop 6 z ≡ row_bytes row ++ more = sym (drop-drop 2 4 z) ∙ ap (drop 2) behind_table ∙ drop-be 2 n (row_bytes row ++ more) in
+    let z = (big_endian 4 table ++ (big_endian 2 n ++ row_bytes row)) ++ more in
+    let flat : z ≡ big_endian 4 table ++ (big_endian 2 n ++ (row_bytes row ++ more)) = append_assoc (big_endian 4 table) (big_endian 2 n ++ row_bytes row) more ∙ ap (λ l. big_endian 4 table ++ l) (append_assoc (big_endian 2 n) (row_bytes row) more) in
+    let first : number 4 z ≡ table = ap (number 4) flat ∙ number-big_endian 4 table (big_endian 2 n ++ (row_bytes row ++ more)) below in
+    let behind_table : drop 4 z ≡ big_endian 2 n ++ (row_bytes row ++ more) = ap (drop 4) flat ∙ drop-big_endian 4 table (big_endian 2 n ++ (row_bytes row ++ more)) in
+    let size : number 2 (drop 4 z) ≡ n = ap (number 2) behind_table ∙ number-big_endian 2 n (row_bytes row ++ more) (omega (arith, storable.short)) in
+    let behind_size : drop 6 z ≡ row_bytes row ++ more = sym (drop-drop 2 4 z) ∙ ap (drop 2) behind_table ∙ drop-big_endian 2 n (row_bytes row ++ more) in
     let cut : take n (drop 6 z) ≡ row_bytes row = ap (take n) behind_size ∙ take-append_seam (row_bytes row) more in
-    let total : length z ≡ 4 + (2 + (n + length more)) = ap length flat ∙ omega (arith, length-append (be 4 table) (be 2 n ++ (row_bytes row ++ more)), length-be 4 table, length-append (be 2 n) (row_bytes row ++ more), length-be 2 n, length-append (row_bytes row) more) in
+    let total : length z ≡ 4 + (2 + (n + length more)) = ap length flat ∙ omega (arith, length-append (big_endian 4 table) (big_endian 2 n ++ (row_bytes row ++ more)), length-big_endian 4 table, length-append (big_endian 2 n) (row_bytes row ++ more), length-big_endian 2 n, length-append (row_bytes row) more) in
     let six : nat_le 6 (length z) ≡ true = le-leb 6 (length z) (omega arith) in
     let long : nat_le (n + 6) (length z) ≡ true = le-leb (n + 6) (length z) (omega arith) in
     rw (size, first, six, le-leb 1 table some, long, cut, stored_is_read (row_bytes row) row (storable, refl)) refl
@@ -304,7 +305,7 @@ unfolding cell_at
 cell_again Empty more range = refl
 cell_again (Full table row) more range =
     full_again table row more range.0 range.1 range.2
-    ∙ ap (λ k. Some (cell_with (Full table row) k)) (omega (arith, length-append (be 4 table) (be 2 (length (row_bytes row)) ++ row_bytes row), length-be 4 table, length-append (be 2 (length (row_bytes row))) (row_bytes row), length-be 2 (length (row_bytes row))))
+    ∙ ap (λ k. Some (cell_with (Full table row) k)) (omega (arith, length-append (big_endian 4 table) (big_endian 2 (length (row_bytes row)) ++ row_bytes row), length-big_endian 4 table, length-append (big_endian 2 (length (row_bytes row))) (row_bytes row), length-big_endian 2 (length (row_bytes row))))
 
 abbrev cells_with : Cell → Cell → ℕ → Cell × Cell × ℕ
 cells_with before after k = (before, after, k)
@@ -322,17 +323,17 @@ cells_again a b more is_a is_b table =
     ∙ ap (λ t. if t then Some (cells_with a b (length (cell_bytes a) + length (cell_bytes b))) else None) table
     ∙ ap (λ k. Some (cells_with a b k)) (sym (length-append (cell_bytes a) (cell_bytes b)))
 
-change_again : (t p : ℕ) (a b : Cell) (more : List ℕ) → IsChange t p a b → change_at ((be 8 t ++ (be 4 p ++ (cell_bytes a ++ cell_bytes b))) ++ more) ≡ Some (entry_with (Change t p a b) (13 + length (cell_bytes a ++ cell_bytes b)))
+change_again : (t p : ℕ) (a b : Cell) (more : List ℕ) → IsChange t p a b → change_at ((big_endian 8 t ++ (big_endian 4 p ++ (cell_bytes a ++ cell_bytes b))) ++ more) ≡ Some (entry_with (Change t p a b) (13 + length (cell_bytes a ++ cell_bytes b)))
 unfolding change_at changed_at
 change_again t p a b more range =
     let cells = cell_bytes a ++ cell_bytes b in
-    let z = (be 8 t ++ (be 4 p ++ cells)) ++ more in
-    let flat : z ≡ be 8 t ++ (be 4 p ++ (cells ++ more)) = append_assoc (be 8 t) (be 4 p ++ cells) more ∙ ap (λ l. be 8 t ++ l) (append_assoc (be 4 p) cells more) in
-    let numbered : transaction_at z ≡ Some t = ap transaction_at flat ∙ transaction_again t (be 4 p ++ (cells ++ more)) range.transaction in
-    let behind_number : drop 8 z ≡ be 4 p ++ (cells ++ more) = ap (drop 8) flat ∙ drop-be 8 t (be 4 p ++ (cells ++ more)) in
-    let place : number 4 (drop 8 z) ≡ p = ap (number 4) behind_number ∙ number-be 4 p (cells ++ more) (omega (arith, range.place)) in
-    let behind_place : drop 4 (drop 8 z) ≡ cells ++ more = ap (drop 4) behind_number ∙ drop-be 4 p (cells ++ more) in
-    let four : nat_le 4 (length (drop 8 z)) ≡ true = le-leb 4 (length (drop 8 z)) (omega (arith, ap length behind_number, length-append (be 4 p) (cells ++ more), length-be 4 p)) in
+    let z = (big_endian 8 t ++ (big_endian 4 p ++ cells)) ++ more in
+    let flat : z ≡ big_endian 8 t ++ (big_endian 4 p ++ (cells ++ more)) = append_assoc (big_endian 8 t) (big_endian 4 p ++ cells) more ∙ ap (λ l. big_endian 8 t ++ l) (append_assoc (big_endian 4 p) cells more) in
+    let numbered : transaction_at z ≡ Some t = ap transaction_at flat ∙ transaction_again t (big_endian 4 p ++ (cells ++ more)) range.transaction in
+    let behind_number : drop 8 z ≡ big_endian 4 p ++ (cells ++ more) = ap (drop 8) flat ∙ drop-big_endian 8 t (big_endian 4 p ++ (cells ++ more)) in
+    let place : number 4 (drop 8 z) ≡ p = ap (number 4) behind_number ∙ number-big_endian 4 p (cells ++ more) (omega (arith, range.place)) in
+    let behind_place : drop 4 (drop 8 z) ≡ cells ++ more = ap (drop 4) behind_number ∙ drop-big_endian 4 p (cells ++ more) in
+    let four : nat_le 4 (length (drop 8 z)) ≡ true = le-leb 4 (length (drop 8 z)) (omega (arith, ap length behind_number, length-append (big_endian 4 p) (cells ++ more), length-big_endian 4 p)) in
     let both_read : cells_at (drop 4 (drop 8 z)) ≡ Some (cells_with a b (length cells)) = ap cells_at behind_place ∙ cells_again a b more range.before range.after range.table in
     ap (λ o. with_transaction o z) numbered
     ∙ rw (both_read, place, four, lt-ltb p 2097152 range.place) refl
@@ -341,13 +342,13 @@ pub again : (e : Entry) (more : List ℕ) → IsEntry e → entry_at (entry_byte
 unfolding entry_at switch_at
 again (Change t p a b) more range =
     change_again t p a b more range
-    ∙ ap (λ k. Some (entry_with (Change t p a b) k)) (omega (arith, length-append (be 8 t) (be 4 p ++ (cell_bytes a ++ cell_bytes b)), length-be 8 t, length-append (be 4 p) (cell_bytes a ++ cell_bytes b), length-be 4 p))
-again (Commit t) more range = ap committed (transaction_again t more range) ∙ ap (λ k. Some (entry_with (Commit t) k)) (omega (arith, length-be 8 t))
-again (Abort t) more range = ap aborted (transaction_again t more range) ∙ ap (λ k. Some (entry_with (Abort t) k)) (omega (arith, length-be 8 t))
+    ∙ ap (λ k. Some (entry_with (Change t p a b) k)) (omega (arith, length-append (big_endian 8 t) (big_endian 4 p ++ (cell_bytes a ++ cell_bytes b)), length-big_endian 8 t, length-append (big_endian 4 p) (cell_bytes a ++ cell_bytes b), length-big_endian 4 p))
+again (Commit t) more range = ap committed (transaction_again t more range) ∙ ap (λ k. Some (entry_with (Commit t) k)) (omega (arith, length-big_endian 8 t))
+again (Abort t) more range = ap aborted (transaction_again t more range) ∙ ap (λ k. Some (entry_with (Abort t) k)) (omega (arith, length-big_endian 8 t))
 again Mark more range = refl
 again (Switch file) more range =
-    let long : nat_le 4 (length (be 4 file ++ more)) ≡ true = le-leb 4 (length (be 4 file ++ more)) (omega (arith, length-append (be 4 file) more, length-be 4 file)) in
-    rw (number-be 4 file more range, long) (ap (λ k. Some (entry_with (Switch file) k)) (omega (arith, length-be 4 file)))
+    let long : nat_le 4 (length (big_endian 4 file ++ more)) ≡ true = le-leb 4 (length (big_endian 4 file ++ more)) (omega (arith, length-append (big_endian 4 file) more, length-big_endian 4 file)) in
+    rw (number-big_endian 4 file more range, long) (ap (λ k. Some (entry_with (Switch file) k)) (omega (arith, length-big_endian 4 file)))
 
 -- the entry that the bytes begin with is read
 pub first_is_read : (z : List ℕ) (e : Entry) → BeginsWith z e → entry_at z ≡ Some (entry_with e (length_of e))
@@ -368,20 +369,20 @@ some_bytes (Abort t) = omega arith
 some_bytes Mark = omega arith
 some_bytes (Switch file) = omega arith
 
--- a row that can be stored has at most 240 bytes
-few_cell_bytes : (c : Cell) → IsCell c → length (cell_bytes c) ≤ 247
+-- a row that can be stored has at most ROW_MAX bytes
+few_cell_bytes : (c : Cell) → IsCell c → length (cell_bytes c) ≤ ROW_MAX + 7
 few_cell_bytes Empty range = omega arith
 few_cell_bytes (Full table row) range =
     let n = length (row_bytes row) in
-    omega (arith, range.2.short, length-append (be 4 table) (be 2 n ++ row_bytes row), length-be 4 table, length-append (be 2 n) (row_bytes row), length-be 2 n)
+    omega (arith, range.2.short, length-append (big_endian 4 table) (big_endian 2 n ++ row_bytes row), length-big_endian 4 table, length-append (big_endian 2 n) (row_bytes row), length-big_endian 2 n)
 
-pub few_bytes : (e : Entry) → IsEntry e → length_of e ≤ 507
+pub few_bytes : (e : Entry) → IsEntry e → length_of e ≤ 2 * ROW_MAX + 27
 few_bytes (Change t p a b) range =
-    omega (arith, few_cell_bytes a range.before, few_cell_bytes b range.after, length-append (be 8 t) (be 4 p ++ (cell_bytes a ++ cell_bytes b)), length-be 8 t, length-append (be 4 p) (cell_bytes a ++ cell_bytes b), length-be 4 p, length-append (cell_bytes a) (cell_bytes b))
-few_bytes (Commit t) range = omega (arith, length-be 8 t)
-few_bytes (Abort t) range = omega (arith, length-be 8 t)
+    omega (arith, few_cell_bytes a range.before, few_cell_bytes b range.after, length-append (big_endian 8 t) (big_endian 4 p ++ (cell_bytes a ++ cell_bytes b)), length-big_endian 8 t, length-append (big_endian 4 p) (cell_bytes a ++ cell_bytes b), length-big_endian 4 p, length-append (cell_bytes a) (cell_bytes b))
+few_bytes (Commit t) range = omega (arith, length-big_endian 8 t)
+few_bytes (Abort t) range = omega (arith, length-big_endian 8 t)
 few_bytes Mark range = omega arith
-few_bytes (Switch file) range = omega (arith, length-be 4 file)
+few_bytes (Switch file) range = omega (arith, length-big_endian 4 file)
 
 -- ---- what is read takes some bytes
 

@@ -1,14 +1,14 @@
-ghost use Rattle.std.specs.Prelude.{◌≡◌, ◌≤◌, length};
+ghost use Rattle.std.specs.Prelude.{◌≡◌, ◌≤◌, ◌+◌, ◌*◌, length};
 ghost use Rattle.tt_record.specs.Entries.{IsCell, IsEntry, cell_bytes, length_of};
 
 use crate::entry::Entry;
-use tt_value::{Cell, stored_length};
+use tt_value::{Cell, ROW_MAX, stored_length};
 
-#[tactic(auto, unfolding(tt_value::specs::Words::be))]
+#[tactic(auto, unfolding(tt_value::specs::Words::big_endian))]
 fn cell_length(cell: &Cell) -> u64
     requires { IsCell cell.now }
     ensures length { result ≡ length (cell_bytes cell.now) }
-    ensures short { result ≤ 247 }
+    ensures short { result ≤ ROW_MAX + 7 }
 {
     match cell {
         Cell::Empty => 1,
@@ -16,13 +16,13 @@ fn cell_length(cell: &Cell) -> u64
     }
 }
 
-/// How many bytes an entry has: 1 to 507.
-#[tactic(auto, unfolding(tt_value::specs::Words::be))]
+/// How many bytes an entry has: 1 to `2 * ROW_MAX + 27`.
+#[tactic(auto, unfolding(tt_value::specs::Words::big_endian))]
 pub fn entry_length(entry: &Entry) -> u64
     requires { IsEntry entry.now }
     ensures length { result ≡ length_of entry.now }
     ensures some { 1 ≤ result }
-    ensures short { result ≤ 507 }
+    ensures short { result ≤ 2 * ROW_MAX + 27 }
 {
     match entry {
         Entry::Change {

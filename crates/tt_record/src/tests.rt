@@ -2,7 +2,10 @@ use crate::{Entry, entry_end, entry_length, place_entry, read_entry, write_entry
 use std::alloc::Global;
 use std::process::Abort;
 use std::test::Fail;
-use tt_value::{Cell, Position, read_row};
+use tt_value::{Cell, Position, ROW_MAX, read_row};
+
+// The most bytes that an entry has.
+const ENTRY_MAX: usize = 2 * ROW_MAX + 27;
 
 // The insert of the row (1, 10) by transaction 2 into table 16 at place 3.
 const INSERT: [u8; 40] = [
@@ -16,7 +19,7 @@ fn expect_entry(rt: &impl Abort, alloc: Global, bytes: &[u8]) -> Result<(), Fail
         Some((entry, length)) => {
             assert_eq!(rt; length + 2, bytes.len());
             assert_eq!(rt; entry_length(&entry), length as u64);
-            let mut written = [0; 507];
+            let mut written = [0; ENTRY_MAX];
             assert_eq!(rt; write_entry(&entry, &mut written), length);
             assert_eq!(rt; written[..length], bytes[..length]);
         }
@@ -37,7 +40,7 @@ fn expect_insert(rt: &impl Abort, alloc: Global) -> Result<(), Fail> {
             after: Cell::Full { table: 16, row },
         };
         assert_eq!(rt; entry_length(&insert), 40);
-        let mut written = [238; 507];
+        let mut written = [238; ENTRY_MAX];
         let length = write_entry(&insert, &mut written);
         assert_eq!(rt; &written[..length], INSERT.as_slice());
         assert_eq!(rt; written[40], 238);

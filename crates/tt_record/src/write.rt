@@ -1,6 +1,6 @@
 // The bytes of entries.
 ghost use Rattle.std.specs.Prelude.{◌≡◌, ◌≤◌, ◌+◌, ◌++◌, ◌∷◌, List, ℕ, length, drop, Some};
-ghost use Rattle.tt_value.specs.Words.{be};
+ghost use Rattle.tt_value.specs.Words.{big_endian};
 ghost use Rattle.tt_record.specs.Entries.{IsCell, IsEntry, full_bytes, cell_bytes, entry_bytes, length_of};
 ghost use Rattle.tt_value.specs.Stored.{IsStorable, row_bytes};
 ghost use Rattle.tt_record.specs.Reading.{entry_at};
@@ -9,7 +9,7 @@ use crate::entry::Entry;
 use tt_value::big_endian::{write_u16, write_u32, write_u64};
 use tt_value::{Cell, Row, stored_length, write_row_into};
 
-#[tactic(auto, unfolding(tt_value::specs::Words::be))]
+#[tactic(auto, unfolding(tt_value::specs::Words::big_endian))]
 fn write_full(table: u32, row: &Row, out: &mut [u8]) -> usize
     requires row { IsStorable row.now }
     requires room { length (full_bytes table row.now) ≤ length out.old }
@@ -38,10 +38,10 @@ fn write_cell(cell: &Cell, out: &mut [u8]) -> usize
     }
 }
 
-#[tactic(auto, unfolding(tt_value::specs::Words::be))]
+#[tactic(auto, unfolding(tt_value::specs::Words::big_endian))]
 fn write_numbers(transaction: u64, place: u32, out: &mut [u8])
     requires { 13 ≤ length out.old }
-    ensures { out.new ≡ 1 ∷ (be 8 transaction ++ (be 4 place ++ drop 13 out.old)) }
+    ensures { out.new ≡ 1 ∷ (big_endian 8 transaction ++ (big_endian 4 place ++ drop 13 out.old)) }
 {
     out[0] = 1;
     write_u64(&mut out[1..], transaction);
@@ -62,14 +62,14 @@ fn write_cells(before: &Cell, after: &Cell, out: &mut [u8]) -> usize
 
 fn write_ended(kind: u8, transaction: u64, out: &mut [u8])
     requires { 9 ≤ length out.old }
-    ensures { out.new ≡ kind ∷ (be 8 transaction ++ drop 9 out.old) }
+    ensures { out.new ≡ kind ∷ (big_endian 8 transaction ++ drop 9 out.old) }
 {
     out[0] = kind;
     write_u64(&mut out[1..], transaction);
 }
 
 /// Writes an entry at the front, and answers its length. It takes no memory.
-#[tactic(auto, unfolding(tt_value::specs::Words::be))]
+#[tactic(auto, unfolding(tt_value::specs::Words::big_endian))]
 pub fn write_entry(entry: &Entry, out: &mut [u8]) -> usize
     requires entry { IsEntry entry.now }
     requires room { length_of entry.now ≤ length out.old }

@@ -1,17 +1,14 @@
 -- What a pass over a log has read, and what it recovers.
-use Rattle.std.proofs.Common.{◌≡◌, ◌==◌, ◌||◌, ◌&&◌, ◌+◌, ℕ, zero, suc, Bool, true, false, nat_le, nat_lt, filter, List, [], ◌∷◌, Result, Ok, Err, if◌then◌else◌, refl, sym, ap, ◌∙◌, subst, arith}
+use Rattle.std.proofs.Common.{◌≡◌, ◌+◌, ℕ, zero, suc, Bool, true, List, [], ◌∷◌, ◌++◌, Result, Ok, Err, refl, sym, ap, ◌∙◌, subst}
 use Rattle.std.specs.Prelude.{IsOk}
 use Rattle.tt_disk.specs.declared.volume.Name.TheVariants.{Log as LogFile}
 use Rattle.tt_value.specs.declared.position.Position.{Position}
 use Rattle.tt_record.specs.declared.entry.Entry.{Entry}
 use Rattle.tt_record.specs.Places.{position}
-use Rattle.tt_log.specs.declared.log.Log.{Log}
-use Rattle.tt_log.specs.declared.scan.Scan.{Scan}
 use Rattle.tt_log.specs.declared.refusal.LogRefusal.{LogRefusal}
-use Rattle.tt_log.specs.Walk.{Files, Found as Read, Part, file_read, is_from, on_part, walk, log_of}
+use Rattle.tt_log.specs.Walk.{Files, Found as Read, Part, file_read, on_part, walk, log_of}
 use Rattle.tt_log.specs.Starts.{is_place, has_place, where_place, started}
 use Rattle.tt_log.specs.Logs.{entries_in, forced_of, walk_end, unforced, write_of}
-use Rattle.tt_log.specs.Scans.{left}
 use Rattle.tt_model.specs.Trail.{Trail}
 use Rattle.tt_model.specs.Committed.{no_cells}
 use Rattle.tt_model.specs.Live.{next_number}
@@ -19,7 +16,7 @@ use Rattle.tt_model.specs.Standing.{standing}
 use Rattle.tt_recover.specs.declared.progress.Progress.{Progress}
 use Rattle.tt_recover.specs.declared.recovery.Recovered.{Recovered}
 use Rattle.tt_recover.specs.Opening.{laid_on, newest_first, found_by, found_in, opening}
-use Rattle.tt_recover.specs.Recoveries.{HasRead, IsReading, IsRecovered}
+use Rattle.tt_recover.specs.Recoveries.{HasRead, IsRecovered}
 use Rattle.tt_recover.specs.Replays.{cell_shown}
 
 -- ---- the log from its beginning on
@@ -45,35 +42,15 @@ pub begun_log : (files : Files) → started (position 0 0) files ≡ log_of 0 fi
 unfolding log_of
 begun_log files = begun_walk (position 0 0) 1000000 0 files
 
-from_start : (p : Position × Entry) → is_from (position 0 0) p ≡ true
-from_start p = by p.0.file
-  where
-    by : (k : ℕ) → (nat_lt 0 k || ((k == 0) && nat_le 0 p.0.offset)) ≡ true
-    by zero = grind arith
-    by (suc k) = grind arith
-
-kept_true : (b : Bool) (p : Position × Entry) (ps qs : List (Position × Entry)) → b ≡ true → ps ≡ qs → (if b then p ∷ ps else ps) ≡ p ∷ qs
-kept_true true p ps qs is same = ap (λ (l : List (Position × Entry)). p ∷ l) same
-kept_true false p ps qs is same = cc
-
-pub all_from : (ps : List (Position × Entry)) → filter (is_from (position 0 0)) ps ≡ ps
-all_from [] = refl
-all_from (p ∷ ps) = kept_true (is_from (position 0 0) p) p (filter (is_from (position 0 0)) ps) ps (from_start p) (all_from ps)
-
 -- ---- one more entry is read
 
-pub reads_one : (progress progress' : Progress) (scan scan' : Scan) (log : Log) (now now' : Files) (all : Trail) (p : Position × Entry)
-    → IsReading progress scan log now all → left scan log now ≡ p ∷ left scan' log now'
-    → ((trail : Trail) → HasRead progress trail → HasRead progress' (record { at = p.0; entry = p.1 } ∷ trail)) → IsReading progress' scan' log now' all
-reads_one progress progress' scan scan' log now now' all p r same takes = record {
-  older = record { at = p.0; entry = p.1 } ∷ r.older;
-  read = takes r.older r.read;
-  rest = ap (laid_on r.older) (sym same) ∙ r.rest;
-}
+laid_behind : (t : Trail) (ps : List (Position × Entry)) (p : Position × Entry) → laid_on t (ps ++ p ∷ []) ≡ record { at = p.0; entry = p.1 } ∷ laid_on t ps
+laid_behind t [] p = refl
+laid_behind t (q ∷ ps) p = laid_behind (record { at = q.0; entry = q.1 } ∷ t) ps p
 
--- all are read
-pub reads_none : (progress : Progress) (scan : Scan) (log : Log) (now : Files) (all : Trail) → IsReading progress scan log now all → left scan log now ≡ [] → HasRead progress all
-reads_none progress scan log now all r none = subst (HasRead progress) (ap (laid_on r.older) (sym none) ∙ r.rest) r.read
+pub read_one : (progress progress' : Progress) (ps : List (Position × Entry)) (at : Position) (entry : Entry) → HasRead progress (newest_first ps)
+    → ((trail : Trail) → HasRead progress trail → HasRead progress' (record { at = at; entry = entry } ∷ trail)) → HasRead progress' (newest_first (ps ++ (at, entry) ∷ []))
+read_one progress progress' ps at entry read takes = subst (HasRead progress') (sym (laid_behind [] ps (at, entry))) (takes (newest_first ps) read)
 
 -- ---- what is recovered
 

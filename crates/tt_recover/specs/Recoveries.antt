@@ -1,28 +1,19 @@
 -- What a pass over a log has read, and what it recovers.
 use Rattle.std.specs.Prelude.{◌≡◌, ℕ, [], Ok}
-use Rattle.tt_log.specs.declared.log.Log.{Log}
-use Rattle.tt_log.specs.declared.scan.Scan.{Scan}
 use Rattle.tt_log.specs.Walk.{Files}
 use Rattle.tt_log.specs.Logs.{forced_of, unforced, write_of}
-use Rattle.tt_log.specs.Scans.{left}
 use Rattle.tt_model.specs.Found.{Found}
 use Rattle.tt_model.specs.Live.{next_number}
 use Rattle.tt_model.specs.Trail.{Trail}
 use Rattle.tt_recover.specs.declared.progress.Progress.{Progress}
 use Rattle.tt_recover.specs.declared.recovery.Recovered.{Recovered}
-use Rattle.tt_recover.specs.Opening.{laid_on, newest_first, opening}
+use Rattle.tt_recover.specs.Opening.{newest_first, opening}
 use Rattle.tt_recover.specs.Replays.{HasTaken, cell_shown}
 
 -- these entries were read
 pub record HasRead (progress : Progress) (trail : Trail) : Type 0 where
   pub taken : HasTaken progress.replay trail
   pub next : progress.next ≡ next_number 1 trail
-
--- some entries were read, and with those that the scan still has to give they are all
-pub record IsReading (progress : Progress) (scan : Scan) (log : Log) (now : Files) (all : Trail) : Type 0 where
-  pub older : Trail
-  pub read : HasRead progress older
-  pub rest : laid_on older (left scan log now) ≡ all
 
 -- What was recovered is what opening finds in the files as they were. The log has the entries that were found, all forced: `now` are
 -- the files as they are.

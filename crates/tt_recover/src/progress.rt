@@ -1,13 +1,13 @@
 // The entries of a log that were read so far.
-ghost use Rattle.std.specs.Prelude.{◌≡◌, ◌≤◌, ◌^◌, [], ◌∷◌, ℕ, OnOk, IfOk};
-ghost use Rattle.tt_value.specs.declared.position.Position.{Position};
-ghost use Rattle.tt_record.specs.Entries.{IsEntry};
+ghost use Rattle.std.specs.Prelude.{◌≡◌, ◌≤◌, ◌^◌, [], ℕ, IfOk};
 ghost use Rattle.tt_model.specs.Trail.{Trail};
 
 use crate::replay::{FoundRow, Replay};
 use std::alloc::{AllocError, Global};
+use tt_log::Taker;
 use tt_model::next_number;
 use tt_record::Entry;
+use tt_value::Position;
 
 // The entries that were read so far: what they leave, and the next transaction's number.
 #[derive(Drop)]
@@ -34,18 +34,6 @@ impl Progress {
         }
     }
 
-    // Takes one more entry.
-    pub(crate) fn take(&mut self, entry: Entry) -> Result<(), AllocError>
-        requires { IsEntry entry }
-        ensures read { (trail : Trail) (at : Position) → HasRead self.old trail
-            → OnOk result (HasRead self.new (record { at = at; entry = entry } ∷ trail)) }
-    {
-        let next = next_number(self.next, &entry);
-        self.replay.take(entry)?;
-        self.next = next;
-        Ok(())
-    }
-
     // The number of the next transaction.
     pub(crate) fn next_transaction(&self) -> u64
         ensures next { result ≡ self.now.next }
@@ -61,5 +49,19 @@ impl Progress {
     {
         let Progress { replay, next: _ } = self;
         replay.finish()
+    }
+}
+
+impl Taker for Progress {
+    ghost use Rattle.tt_recover.specs.Opening.{newest_first};
+    ghost use Rattle.tt_recover.specs.Recoveries.{HasRead};
+
+    ghost took = { λ progress ps. HasRead progress (newest_first ps) };
+
+    fn take(&mut self, _: Position, entry: Entry) -> Result<(), AllocError> {
+        let next = next_number(self.next, &entry);
+        self.replay.take(entry)?;
+        self.next = next;
+        Ok(())
     }
 }

@@ -1,21 +1,19 @@
 // A log read from its beginning to its end.
-ghost use Rattle.std.specs.Prelude.{◌≡◌, ◌⊎◌, ◌<◌, ◌≤◌, ◌^◌, length, true, false, IfOk, IfErr, IsErrOf, Err};
+ghost use Rattle.std.specs.Prelude.{◌≡◌, ◌⊎◌, ◌≤◌, ◌^◌, length, IfOk, IfErr, IsErrOf, Err};
 ghost use Rattle.tt_disk.specs.Causes.{RoseWhere};
 ghost use Rattle.tt_disk.specs.Volume.{Keeps};
 ghost use Rattle.tt_log.specs.declared.refusal.LogRefusal.TheVariants.{Failed, NoMemory};
 ghost use Rattle.tt_log.specs.Walk.{log_of};
-ghost use Rattle.tt_log.specs.Logs.{IsOpen, IsWhole, LeavesForced, LeavesThis, forced_of, waiting_bytes, write_of};
-ghost use Rattle.tt_log.specs.Scans.{IsScanning, most_left};
-ghost use Rattle.tt_model.specs.Trail.{Trail};
-ghost use Rattle.tt_recover.specs.Opening.{newest_first, opening};
+ghost use Rattle.tt_log.specs.Logs.{IsOpen, LeavesForced, LeavesThis, waiting_bytes, write_of};
+ghost use Rattle.tt_recover.specs.Opening.{opening};
 ghost use Rattle.tt_recover.specs.Replays.{AreInOrder};
-ghost use Rattle.tt_recover.specs.Recoveries.{HasRead, IsReading, IsRecovered};
+ghost use Rattle.tt_recover.specs.Recoveries.{IsRecovered};
 
 use crate::progress::Progress;
 use crate::replay::FoundRow;
 use std::alloc::Global;
 use tt_disk::Volume;
-use tt_log::{Log, LogRefusal, Scan};
+use tt_log::{Log, LogRefusal};
 use tt_value::Position;
 
 /// What opening found of a log: the log for adding to it, the rows in the order of their places, and the next transaction's number.
@@ -26,55 +24,7 @@ pub struct Recovered {
     pub next_transaction: u64,
 }
 
-// Takes the entry that a scan gives next; `false` where none is left.
-fn take_next<V: Volume>(
-    progress: &mut Progress,
-    scan: &mut Scan,
-    log: &Log,
-    volume: &mut V,
-) -> Result<bool, LogRefusal>
-    requires scanning { V.told → IsScanning scan.old log.now (V.now volume.old) }
-    ensures scanning { V.told → IsScanning scan.new log.now (V.now volume.new) }
-    ensures reading { V.told → (all : Trail) → IsReading progress.old scan.old log.now (V.now volume.old) all
-        → IfOk result (λ more. more ≡ true → IsReading progress.new scan.new log.now (V.now volume.new) all) }
-    ensures done { V.told → (all : Trail) → IsReading progress.old scan.old log.now (V.now volume.old) all
-        → IfOk result (λ more. more ≡ false → HasRead progress.new all) }
-    ensures fewer { IfOk result (λ more. more ≡ true → most_left scan.new < most_left scan.old) }
-    ensures refused { V.told → IfErr result (λ e. (e ≡ Failed) ⊎ (e ≡ NoMemory)) }
-    ensures keeps { V.told → Keeps (V.now volume.old) (V.now volume.new) (V.may volume.old) (V.may volume.new) }
-    ensures cause { RoseWhere (IsErrOf result Failed) (V.faults volume.old) (V.faults volume.new) }
-{
-    match scan.next(log, volume) {
-        Ok(Some((_, entry))) => match progress.take(entry) {
-            Ok(()) => Ok(true),
-            Err(_) => Err(LogRefusal::NoMemory),
-        },
-        Ok(None) => Ok(false),
-        Err(refusal) => Err(refusal),
-    }
-}
-
-// Takes all forced entries of a log.
-fn take_all<V: Volume>(alloc: Global, log: &Log, volume: &mut V) -> Result<Progress, LogRefusal>
-    requires whole { V.told → IsWhole log.now (V.now volume.old) }
-    requires first { log.now.first ≡ 0 }
-    ensures read { V.told → IfOk result (λ progress. HasRead progress (newest_first (forced_of log.now (V.now volume.old)))) }
-    ensures refused { V.told → IfErr result (λ e. (e ≡ Failed) ⊎ (e ≡ NoMemory)) }
-    ensures keeps { V.told → Keeps (V.now volume.old) (V.now volume.new) (V.may volume.old) (V.may volume.new) }
-    ensures cause { RoseWhere (IsErrOf result Failed) (V.faults volume.old) (V.faults volume.new) }
-{
-    let mut scan = log.scan(Position { file: 0, offset: 0 });
-    let mut progress = Progress::new(alloc);
-    'entries: loop {
-        match take_next(&mut progress, &mut scan, log, volume) {
-            Ok(true) => {}
-            Ok(false) => return Ok(progress),
-            Err(refusal) => return Err(refusal),
-        }
-    }
-}
-
-/// Opens a log from the file numbered 0 on, and finds what its entries stand for. No file changes. Sizes are in bytes; that of a
+/// Opens a log from the file numbered 0 on, and finds what its entries stand for. It reads each file once, and changes none. Sizes are in bytes; that of a
 /// file counts its entries alone.
 ///
 /// The first damage on the walk through the files is refused, as `Gap` or as `BadBatch`; `Failed` where a call of the volume
@@ -104,12 +54,16 @@ pub fn recover<V: Volume>(
     ensures cause { RoseWhere (IsErrOf result Failed) (V.faults volume.old) (V.faults volume.new) }
 {
     let origin = Position { file: 0, offset: 0 };
-    let log = match Log::start(alloc, volume, origin, log_file_size, log_buf_size) {
+    let mut progress = Progress::new(alloc);
+    let log = match Log::start_giving(
+        alloc,
+        volume,
+        origin,
+        log_file_size,
+        log_buf_size,
+        &mut progress,
+    ) {
         Ok(log) => log,
-        Err(refusal) => return Err(refusal),
-    };
-    let progress = match take_all(alloc, &log, volume) {
-        Ok(progress) => progress,
         Err(refusal) => return Err(refusal),
     };
     let next_transaction = progress.next_transaction();

@@ -3,7 +3,7 @@ use Rattle.std.specs.Prelude.{◌≡◌, ◌<◌, ◌≤◌, ◌^◌, ℕ, ℤ, 
 use Rattle.std.specs.Int.{cast_unsigned, w64}
 use Rattle.std.specs.Int.RustNames.{FitsSigned, unsigned_abs}
 use Rattle.std.specs.List.{flat_map, All}
-use Rattle.tt_value.specs.Words.{be}
+use Rattle.tt_value.specs.Words.{big_endian}
 use Rattle.tt_value.specs.declared.TheConstants.{ROW_MAX, VALUES_MAX, TEXT_MAX, SCALE_MAX, UNITS_END}
 use Rattle.tt_value.specs.declared.value.Value.{Value}
 use Rattle.tt_value.specs.declared.value.Value.TheVariants.{Null, Int, Number, Text}
@@ -12,9 +12,9 @@ use Rattle.tt_value.specs.declared.value.Row.{Row}
 -- whole numbers in two's complement, texts behind their length
 abbrev pub value_bytes : Value → List ℕ
 value_bytes Null = 0 ∷ []
-value_bytes (Int n) = 1 ∷ be 8 (cast_unsigned w64 n)
-value_bytes (Number scale units) = 2 ∷ scale ∷ be 8 (cast_unsigned w64 units)
-value_bytes (Text text) = 3 ∷ (be 2 (length text) ++ text)
+value_bytes (Int n) = 1 ∷ big_endian 8 (cast_unsigned w64 n)
+value_bytes (Number scale units) = 2 ∷ scale ∷ big_endian 8 (cast_unsigned w64 units)
+value_bytes (Text text) = 3 ∷ (big_endian 2 (length text) ++ text)
 
 abbrev pub values_bytes : List Value → List ℕ
 values_bytes vs = flat_map value_bytes vs

@@ -15,8 +15,8 @@ use Rattle.std.proofs.lemmas.List.{length-drop, length-take-le}
 use Rattle.std.proofs.lemmas.List.Elements.{All-from_recursion, recursion_from_All}
 use Rattle.std.specs.List.{AllByRecursion}
 use Rattle.byteorder.specs.Numbers.{big_from-lt}
-use Rattle.tt_value.specs.Words.{be, number}
-use Rattle.tt_value.specs.WordLaws.{AreBytes, length-be, number-be, drop-be, be-number_2, be-number_8, drop_bytes}
+use Rattle.tt_value.specs.Words.{big_endian, number}
+use Rattle.tt_value.specs.WordLaws.{AreBytes, length-big_endian, number-big_endian, drop-big_endian, big_endian-number_2, big_endian-number_8, drop_bytes}
 use Rattle.tt_value.specs.Stored.{value_bytes, values_bytes, row_bytes, IsStorableValue, IsStorable, IsStored}
 use Rattle.tt_value.specs.ReadingRows.{int_at, number_at, text_at, value_at, tagged_at, values_in, row_in, behind, with_rest, row_of}
 use Rattle.tt_value.specs.declared.TheConstants.{ROW_MAX, VALUES_MAX, TEXT_MAX, SCALE_MAX, UNITS_END}
@@ -43,10 +43,10 @@ pub record Takes (z : List ℕ) (v : Value) (k : ℕ) : Type 0 where
   pub range : IsStorableValue v
 
 -- a signed number is read from the bytes that stand for it
-signed_bytes : (z : List ℕ) → 8 ≤ length z → AreBytes z → be 8 (cast_unsigned w64 (cast_signed w64 (number 8 z))) ++ drop 8 z ≡ z
+signed_bytes : (z : List ℕ) → 8 ≤ length z → AreBytes z → big_endian 8 (cast_unsigned w64 (cast_signed w64 (number 8 z))) ++ drop 8 z ≡ z
 signed_bytes z h b =
-    ap (λ n. be 8 n ++ drop 8 z) (of_z-to_z w64 (number 8 z) (number-below 8 z b))
-    ∙ ap (λ l. l ++ drop 8 z) (be-number_8 z h b)
+    ap (λ n. big_endian 8 n ++ drop 8 z) (of_z-to_z w64 (number 8 z) (number-below 8 z b))
+    ∙ ap (λ l. l ++ drop 8 z) (big_endian-number_8 z h b)
     ∙ take-append-drop 8 z
 
 -- the one case of a test in which something is found
@@ -74,7 +74,7 @@ takes_int z y b e =
     let enough : 8 ≤ length z = leb-true 8 (length z) long in
     takes_again (1 ∷ z) (Int (cast_signed w64 (number 8 z)), 9) y same (record {
       bytes = ap (λ l. 1 ∷ l) (sym (signed_bytes z enough b));
-      count = omega (arith, length-be 8 (cast_unsigned w64 (cast_signed w64 (number 8 z))));
+      count = omega (arith, length-big_endian 8 (cast_unsigned w64 (cast_signed w64 (number 8 z))));
       range = sfits_to_z {w = w64} (record { fits = number-below 8 z b });
     })
 
@@ -90,17 +90,17 @@ takes_number (scale ∷ z) y b e =
     let enough : 8 ≤ length z = leb-true 8 (length z) long in
     takes_again (2 ∷ scale ∷ z) (Number scale units, 10) y same (record {
       bytes = ap (λ l. 2 ∷ scale ∷ l) (sym (signed_bytes z enough rest));
-      count = omega (arith, length-be 8 (cast_unsigned w64 units));
+      count = omega (arith, length-big_endian 8 (cast_unsigned w64 units));
       range = (leb-true scale SCALE_MAX low, ltb-true (unsigned_abs units) UNITS_END small);
     })
 
 -- a length, a text and the rest are the whole
-text_bytes : (z text : List ℕ) (size : ℕ) → size ≡ number 2 z → text ≡ take size (drop 2 z) → size + 2 ≤ length z → AreBytes z → (be 2 (length text) ++ text) ++ drop (size + 2) z ≡ z
+text_bytes : (z text : List ℕ) (size : ℕ) → size ≡ number 2 z → text ≡ take size (drop 2 z) → size + 2 ≤ length z → AreBytes z → (big_endian 2 (length text) ++ text) ++ drop (size + 2) z ≡ z
 text_bytes z text size is cut long b =
     let l : length text ≡ size = ap length cut ∙ length-take-le size (drop 2 z) (omega (arith, length-drop 2 z)) in
-    let head : be 2 (length text) ≡ take 2 z = ap (be 2) (l ∙ is) ∙ be-number_2 z (omega arith) b in
+    let head : big_endian 2 (length text) ≡ take 2 z = ap (big_endian 2) (l ∙ is) ∙ big_endian-number_2 z (omega arith) b in
     let back : drop (size + 2) z ≡ drop size (drop 2 z) = ap (λ k. drop k z) (let e : size + 2 ≡ 2 + size = omega arith in e) ∙ sym (drop-drop size 2 z) in
-    append_assoc (be 2 (length text)) text (drop (size + 2) z)
+    append_assoc (big_endian 2 (length text)) text (drop (size + 2) z)
     ∙ ap₂ (λ x y. x ++ (text ++ y)) head back
     ∙ ap (λ x. take 2 z ++ (x ++ drop size (drop 2 z))) cut
     ∙ ap (λ x. take 2 z ++ x) (take-append-drop size (drop 2 z))
@@ -119,8 +119,8 @@ takes_text z y b e =
     let l : length text ≡ size = length-take-le size (drop 2 z) (omega (arith, length-drop 2 z)) in
     let past : drop (size + 3) (3 ∷ z) ≡ drop (size + 2) z = ap (λ k. drop k (3 ∷ z)) (let k : size + 3 ≡ suc (size + 2) = omega arith in k) in
     takes_again (3 ∷ z) (Text text, size + 3) y same (record {
-      bytes = sym (ap (λ r. 3 ∷ ((be 2 (length text) ++ text) ++ r)) past ∙ ap (λ r. 3 ∷ r) (text_bytes z text size refl refl enough b));
-      count = omega (arith, l, length-append (be 2 (length text)) text, length-be 2 (length text));
+      bytes = sym (ap (λ r. 3 ∷ ((big_endian 2 (length text) ++ text) ++ r)) past ∙ ap (λ r. 3 ∷ r) (text_bytes z text size refl refl enough b));
+      count = omega (arith, l, length-append (big_endian 2 (length text)) text, length-big_endian 2 (length text));
       range = (omega (arith, l, leb-true size TEXT_MAX few), IsUtf8-from_is_utf8 text utf8);
     })
 
@@ -150,33 +150,33 @@ takes (tag ∷ z) y b e =
 
 -- ---- what stands at the front is read
 
-int_again : (n : ℤ) (rest : List ℕ) → FitsSigned w64 n → int_at (be 8 (cast_unsigned w64 n) ++ rest) ≡ Some (pair_of (Int n) 9)
+int_again : (n : ℤ) (rest : List ℕ) → FitsSigned w64 n → int_at (big_endian 8 (cast_unsigned w64 n) ++ rest) ≡ Some (pair_of (Int n) 9)
 unfolding int_at
 int_again n rest fits =
     let u = cast_unsigned w64 n in
-    let long : nat_le 8 (length (be 8 u ++ rest)) ≡ true = le-leb 8 (length (be 8 u ++ rest)) (omega (arith, length-append (be 8 u) rest, length-be 8 u)) in
-    let back : cast_signed w64 (number 8 (be 8 u ++ rest)) ≡ n = ap (cast_signed w64) (number-be 8 u rest (unsigned_below n fits)) ∙ to_z-of_z w64 n fits in
+    let long : nat_le 8 (length (big_endian 8 u ++ rest)) ≡ true = le-leb 8 (length (big_endian 8 u ++ rest)) (omega (arith, length-append (big_endian 8 u) rest, length-big_endian 8 u)) in
+    let back : cast_signed w64 (number 8 (big_endian 8 u ++ rest)) ≡ n = ap (cast_signed w64) (number-big_endian 8 u rest (unsigned_below n fits)) ∙ to_z-of_z w64 n fits in
     rw (long, back) refl
 
 number_again : (scale : ℕ) (units : ℤ) (rest : List ℕ) → FitsSigned w64 units → scale ≤ SCALE_MAX → unsigned_abs units < UNITS_END →
-    number_at (scale ∷ (be 8 (cast_unsigned w64 units) ++ rest)) ≡ Some (pair_of (Number scale units) 10)
+    number_at (scale ∷ (big_endian 8 (cast_unsigned w64 units) ++ rest)) ≡ Some (pair_of (Number scale units) 10)
 unfolding number_at
 number_again scale units rest fits low small =
     let u = cast_unsigned w64 units in
-    let long : nat_le 8 (length (be 8 u ++ rest)) ≡ true = le-leb 8 (length (be 8 u ++ rest)) (omega (arith, length-append (be 8 u) rest, length-be 8 u)) in
-    let back : cast_signed w64 (number 8 (be 8 u ++ rest)) ≡ units = ap (cast_signed w64) (number-be 8 u rest (unsigned_below units fits)) ∙ to_z-of_z w64 units fits in
+    let long : nat_le 8 (length (big_endian 8 u ++ rest)) ≡ true = le-leb 8 (length (big_endian 8 u ++ rest)) (omega (arith, length-append (big_endian 8 u) rest, length-big_endian 8 u)) in
+    let back : cast_signed w64 (number 8 (big_endian 8 u ++ rest)) ≡ units = ap (cast_signed w64) (number-big_endian 8 u rest (unsigned_below units fits)) ∙ to_z-of_z w64 units fits in
     rw (long, back, le-leb scale SCALE_MAX low, lt-ltb (unsigned_abs units) UNITS_END small) refl
 
 text_again : (text rest : List ℕ) → length text ≤ TEXT_MAX → IsUtf8 text →
-    text_at ((be 2 (length text) ++ text) ++ rest) ≡ Some (pair_of (Text text) (length text + 3))
+    text_at ((big_endian 2 (length text) ++ text) ++ rest) ≡ Some (pair_of (Text text) (length text + 3))
 unfolding text_at
 text_again text rest few utf8 =
-    let z = (be 2 (length text) ++ text) ++ rest in
-    let flat : z ≡ be 2 (length text) ++ (text ++ rest) = append_assoc (be 2 (length text)) text rest in
-    let size : number 2 z ≡ length text = ap (number 2) flat ∙ number-be 2 (length text) (text ++ rest) (omega (arith, few)) in
-    let back : drop 2 z ≡ text ++ rest = ap (drop 2) flat ∙ drop-be 2 (length text) (text ++ rest) in
+    let z = (big_endian 2 (length text) ++ text) ++ rest in
+    let flat : z ≡ big_endian 2 (length text) ++ (text ++ rest) = append_assoc (big_endian 2 (length text)) text rest in
+    let size : number 2 z ≡ length text = ap (number 2) flat ∙ number-big_endian 2 (length text) (text ++ rest) (omega (arith, few)) in
+    let back : drop 2 z ≡ text ++ rest = ap (drop 2) flat ∙ drop-big_endian 2 (length text) (text ++ rest) in
     let cut : take (length text) (drop 2 z) ≡ text = ap (take (length text)) back ∙ take-append_seam text rest in
-    let total : length z ≡ 2 + (length text + length rest) = ap length flat ∙ (omega (arith, length-append (be 2 (length text)) (text ++ rest), length-be 2 (length text), length-append text rest)) in
+    let total : length z ≡ 2 + (length text + length rest) = ap length flat ∙ (omega (arith, length-append (big_endian 2 (length text)) (text ++ rest), length-big_endian 2 (length text), length-append text rest)) in
     let two : nat_le 2 (length z) ≡ true = le-leb 2 (length z) (omega arith) in
     let long : nat_le (length text + 2) (length z) ≡ true = le-leb (length text + 2) (length z) (omega arith) in
     rw (size, cut, two, long, le-leb (length text) TEXT_MAX few, is_utf8-from_IsUtf8 text utf8) refl
@@ -185,13 +185,13 @@ text_again text rest few utf8 =
 pub again : (v : Value) (rest : List ℕ) → IsStorableValue v → value_at (value_bytes v ++ rest) ≡ Some (pair_of v (length (value_bytes v)))
 unfolding value_at
 again Null rest range = refl
-again (Int n) rest range = int_again n rest range ∙ ap (λ k. Some (pair_of (Int n) k)) (let k : 9 ≡ 1 + length (be 8 (cast_unsigned w64 n)) = omega (arith, length-be 8 (cast_unsigned w64 n)) in k ∙ omega arith)
+again (Int n) rest range = int_again n rest range ∙ ap (λ k. Some (pair_of (Int n) k)) (let k : 9 ≡ 1 + length (big_endian 8 (cast_unsigned w64 n)) = omega (arith, length-big_endian 8 (cast_unsigned w64 n)) in k ∙ omega arith)
 again (Number scale units) rest range =
     number_again scale units rest (units_fit units range.1) range.0 range.1
-    ∙ ap (λ k. Some (pair_of (Number scale units) k)) (let k : 10 ≡ 2 + length (be 8 (cast_unsigned w64 units)) = omega (arith, length-be 8 (cast_unsigned w64 units)) in k ∙ omega arith)
+    ∙ ap (λ k. Some (pair_of (Number scale units) k)) (let k : 10 ≡ 2 + length (big_endian 8 (cast_unsigned w64 units)) = omega (arith, length-big_endian 8 (cast_unsigned w64 units)) in k ∙ omega arith)
 again (Text text) rest range =
     text_again text rest range.0 range.1
-    ∙ ap (λ k. Some (pair_of (Text text) k)) (let k : length text + 3 ≡ 1 + length (be 2 (length text) ++ text) = omega (arith, length-append (be 2 (length text)) text, length-be 2 (length text)) in k ∙ omega arith)
+    ∙ ap (λ k. Some (pair_of (Text text) k)) (let k : length text + 3 ≡ 1 + length (big_endian 2 (length text) ++ text) = omega (arith, length-append (big_endian 2 (length text)) text, length-big_endian 2 (length text)) in k ∙ omega arith)
 
 -- ---- so many values
 

@@ -5,19 +5,19 @@ use Rattle.std.proofs.Math.Seq.{drop-append_seam}
 use Rattle.std.proofs.lemmas.Nat.{be_bytes_2, be_bytes_4, be_bytes_8}
 use Rattle.std.proofs.lemmas.List.{take-append-drop}
 use Rattle.byteorder.specs.Numbers.{big_number-reads_back, length-bytes_high_first, big_from-take}
-use Rattle.tt_value.specs.Words.{be, number}
+use Rattle.tt_value.specs.Words.{big_endian, number}
 
-pub length-be : (n x : ℕ) → length (be n x) ≡ n
-unfolding be
-length-be n x = length-bytes_high_first n x
+pub length-big_endian : (n x : ℕ) → length (big_endian n x) ≡ n
+unfolding big_endian
+length-big_endian n x = length-bytes_high_first n x
 
-pub number-be : (n x : ℕ) (rest : List ℕ) → x < 256 ^ n → number n (be n x ++ rest) ≡ x
-unfolding be number
-number-be n x rest h = big_number-reads_back n x rest h
+pub number-big_endian : (n x : ℕ) (rest : List ℕ) → x < 256 ^ n → number n (big_endian n x ++ rest) ≡ x
+unfolding big_endian number
+number-big_endian n x rest h = big_number-reads_back n x rest h
 
 -- what stands behind a number's bytes
-pub drop-be : (n x : ℕ) (rest : List ℕ) → drop n (be n x ++ rest) ≡ rest
-drop-be n x rest = ap (λ k. drop k (be n x ++ rest)) (sym (length-be n x)) ∙ drop-append_seam (be n x) rest
+pub drop-big_endian : (n x : ℕ) (rest : List ℕ) → drop n (big_endian n x ++ rest) ≡ rest
+drop-big_endian n x rest = ap (λ k. drop k (big_endian n x ++ rest)) (sym (length-big_endian n x)) ∙ drop-append_seam (big_endian n x) rest
 
 -- each is below 256
 abbrev pub AreBytes : List ℕ → Type 0
@@ -38,20 +38,20 @@ drop_bytes zero bytes h i = h i
 drop_bytes (suc n) [] h i = h i
 drop_bytes (suc n) (b ∷ bytes) h i = drop_bytes n bytes (λ j. h (suc j)) i
 
-pub be-number_2 : (bytes : List ℕ) → 2 ≤ length bytes → AreBytes bytes → be 2 (number 2 bytes) ≡ take 2 bytes
-unfolding be number
-be-number_2 bytes h b =
+pub big_endian-number_2 : (bytes : List ℕ) → 2 ≤ length bytes → AreBytes bytes → big_endian 2 (number 2 bytes) ≡ take 2 bytes
+unfolding big_endian number
+big_endian-number_2 bytes h b =
     let same = number-take 2 bytes in
     be_bytes_2 (take 2 bytes) (number 2 bytes) (omega (arith, length-take 2 bytes)) (take_bytes 2 bytes b) (sym same ∙ omega arith)
 
-pub be-number_4 : (bytes : List ℕ) → 4 ≤ length bytes → AreBytes bytes → be 4 (number 4 bytes) ≡ take 4 bytes
-unfolding be number
-be-number_4 bytes h b =
+pub big_endian-number_4 : (bytes : List ℕ) → 4 ≤ length bytes → AreBytes bytes → big_endian 4 (number 4 bytes) ≡ take 4 bytes
+unfolding big_endian number
+big_endian-number_4 bytes h b =
     let same = number-take 4 bytes in
     be_bytes_4 (take 4 bytes) (number 4 bytes) (omega (arith, length-take 4 bytes)) (take_bytes 4 bytes b) (sym same ∙ omega arith)
 
-pub be-number_8 : (bytes : List ℕ) → 8 ≤ length bytes → AreBytes bytes → be 8 (number 8 bytes) ≡ take 8 bytes
-unfolding be number
-be-number_8 bytes h b =
+pub big_endian-number_8 : (bytes : List ℕ) → 8 ≤ length bytes → AreBytes bytes → big_endian 8 (number 8 bytes) ≡ take 8 bytes
+unfolding big_endian number
+big_endian-number_8 bytes h b =
     let same = number-take 8 bytes in
     be_bytes_8 (take 8 bytes) (number 8 bytes) (omega (arith, length-take 8 bytes)) (take_bytes 8 bytes b) (sym same ∙ omega arith)

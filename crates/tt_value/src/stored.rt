@@ -149,7 +149,7 @@ pub fn read_row(alloc: Global, bytes: &[u8]) -> Result<Option<Row>, AllocError>
     read_whole(alloc, bytes)
 }
 
-#[tactic(auto, unfolding(crate::specs::Words::be))]
+#[tactic(auto, unfolding(crate::specs::Words::big_endian))]
 fn value_length(value: &Value) -> usize
     requires { HasLength value.now }
     ensures length { result ≡ length (value_bytes value.now) }
@@ -177,7 +177,7 @@ pub fn stored_length(row: &Row) -> u64
 }
 
 // Writes a value at the front, and answers its length.
-#[tactic(auto, unfolding(crate::specs::Words::be))]
+#[tactic(auto, unfolding(crate::specs::Words::big_endian))]
 fn write_value(value: &Value, out: &mut [u8]) -> usize
     requires text { HasLength value.now }
     requires room { length (value_bytes value.now) ≤ length out.old }

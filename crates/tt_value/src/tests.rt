@@ -5,20 +5,21 @@ use std::collections::HashMap;
 use std::process::Abort;
 use std::test::Fail;
 
-// A value of the tables below; a text is told by the count of its letters.
+// A value of the tables below; a text is told by its bytes, or by the count of its letters, each an `a`.
 #[derive(Clone, Copy)]
 enum Plain {
     Null,
     Int(i64),
     Number(u8, i64),
+    Said(&'static [u8]),
     Letters(usize),
 }
 
-use Plain::{Int, Letters, Null, Number};
+use Plain::{Int, Letters, Null, Number, Said};
 
 const MOST_UNITS: i64 = 999_999_999_999_999_999;
 
-const STORED: [(&[Plain], &[u8]); 7] = [
+const STORED: [(&[Plain], &[u8]); 8] = [
     (
         &[Int(1), Int(10)],
         b"\x02\x01\0\0\0\0\0\0\0\x01\x01\0\0\0\0\0\0\0\x0a",
@@ -37,6 +38,10 @@ const STORED: [(&[Plain], &[u8]); 7] = [
         b"\x01\x02\0\xf2\x1f\x49\x4c\x58\x9c\0\x01",
     ),
     (&[Letters(0), Letters(3)], b"\x02\x03\0\0\x03\0\x03aaa"),
+    (
+        &[Int(1), Said(b"Ada's desk"), Number(4, 10_000_000)],
+        b"\x03\x01\0\0\0\0\0\0\0\x01\x03\0\x0aAda's desk\x02\x04\0\0\0\0\0\x98\x96\x80",
+    ),
     (
         &[Null; 16],
         &[16, 0, 0, 0, 0, 0, 0, 0, 0, 0, 0, 0, 0, 0, 0, 0, 0],
@@ -59,12 +64,21 @@ const NO_ROWS: [&[u8]; 13] = [
     b"\x01\x03\0\x02a",
 ];
 
-// How many bytes each has, and whether it can be stored.
-const LONG: [(&[Plain], u64, bool); 4] = [
-    (&[Letters(200), Letters(33)], 240, true),
-    (&[Letters(200), Letters(34)], 241, false),
-    (&[Letters(201)], 205, false),
-    (&[], 1, false),
+// The bytes of each, as fronts with so many letters behind them, and whether they are a row's.
+const LONG: [(&[Plain], &[(&[u8], usize)], bool); 5] = [
+    (&[Letters(200)], &[(b"\x01\x03\0\xc8", 200)], true),
+    (&[Letters(201)], &[(b"\x01\x03\0\xc9", 201)], false),
+    (
+        &[Letters(200), Letters(33)],
+        &[(b"\x02\x03\0\xc8", 200), (b"\x03\0\x21", 33)],
+        true,
+    ),
+    (
+        &[Letters(200), Letters(34)],
+        &[(b"\x02\x03\0\xc8", 200), (b"\x03\0\x22", 34)],
+        false,
+    ),
+    (&[], &[(b"\0", 0)], false),
 ];
 
 const COMPARED: [(Plain, Plain, Ordering); 12] = [
@@ -187,9 +201,12 @@ fn value_of(alloc: Global, plain: Plain) -> Result<Value, Fail> {
         Null => Ok(Value::Null),
         Int(n) => Ok(Value::Int(n)),
         Number(scale, units) => Ok(Value::Number { scale, units }),
+        Said(bytes) => {
+            let text = Text::of(alloc, bytes)?;
+            Ok(Value::Text(text.ok_or("ASCII is UTF-8")?))
+        }
         Letters(count) => {
-            let letters = vec![in alloc; b'a'; count]?;
-            let text = Text::of(alloc, letters.as_slice())?;
+            let text = Text::from_vec(vec![in alloc; b'a'; count]?);
             Ok(Value::Text(text.ok_or("ASCII is UTF-8")?))
         }
     }
@@ -225,16 +242,51 @@ fn rows_are_stored(rt: HostRuntime) -> Result<(), Fail> {
     Ok(())
 }
 
+fn with_letters(alloc: Global, parts: &[(&[u8], usize)]) -> Result<Vec<u8>, Fail> {
+    let mut bytes = Vec::new(alloc);
+    for (front, count) in parts {
+        bytes.extend_from_slice(front)?;
+        bytes.extend_from_slice(vec![in alloc; b'a'; *count]?.as_slice())?;
+    }
+    Ok(bytes)
+}
+
 #[test]
 fn rows_have_a_length(rt: HostRuntime) -> Result<(), Fail> {
-    for (plain, length, storable) in LONG.iter() {
+    for (plain, parts, storable) in LONG.iter() {
+        let bytes = with_letters(rt.alloc(), parts)?;
         let row = row_of(rt.alloc(), plain)?;
-        if is_storable(&row) {
-            assert_eq!(rt; stored_length(&row), *length);
-        }
         assert_eq!(rt; is_storable(&row), *storable);
+        if is_storable(&row) {
+            assert_eq!(rt; stored_length(&row), bytes.len() as u64);
+            is_stored_as(&rt, rt.alloc(), plain, bytes.as_slice())?;
+        } else {
+            assert_eq!(rt; read_row(rt.alloc(), bytes.as_slice())?, None);
+        }
         let cell = Cell::Full { table: 16, row };
         assert_eq!(rt; cell.copy()?, cell);
+    }
+    Ok(())
+}
+
+// The stored length of a row of two texts.
+fn length_of_two(rt: &impl Abort, alloc: Global, first: Text, second: Text) -> Result<u64, Fail> {
+    assert!(rt; first.as_bytes().len() < 65536);
+    assert!(rt; second.as_bytes().len() < 65536);
+    let mut values = List::new(alloc);
+    values.push(Value::Text(first))?;
+    values.push(Value::Text(second))?;
+    Ok(stored_length(&Row { values }))
+}
+
+#[test]
+fn rows_that_are_too_long_have_a_length(rt: HostRuntime) -> Result<(), Fail> {
+    for (first, second, length) in [(200, 34, 241), (201, 0, 208), (65535, 65535, 131077)] {
+        let first = Text::from_vec(vec![in rt.alloc(); b'a'; first]?);
+        let second = Text::from_vec(vec![in rt.alloc(); b'a'; second]?);
+        if let (Some(first), Some(second)) = (first, second) {
+            assert_eq!(rt; length_of_two(&rt, rt.alloc(), first, second)?, length);
+        }
     }
     Ok(())
 }
@@ -316,5 +368,6 @@ fn names_are_told(rt: HostRuntime) -> Result<(), Fail> {
     assert_eq!(rt; names.remove(0).as_bytes(), b"kv".as_slice());
     assert_eq!(rt; names.into_vec().len(), 3);
     assert!(rt; Text::of(rt.alloc(), b"\xc3")?.is_none());
+    assert!(rt; Text::from_vec(vec![in rt.alloc(); 0xc3]?).is_none());
     Ok(())
 }

@@ -30,6 +30,16 @@ impl Text {
         }
     }
 
+    /// The text of these bytes, which are not copied; `None` exactly where they aren't UTF-8.
+    pub fn from_vec(bytes: Vec<u8>) -> Option<Text>
+        ensures { MatchOption result (¬ IsUtf8 bytes.items) (λ t. (t ≡ bytes.items) × IsUtf8 bytes.items) }
+    {
+        match String::from_utf8(bytes) {
+            Ok(text) => Some(Text { text }),
+            Err(_) => None,
+        }
+    }
+
     /// A text that is given as one.
     pub fn from_str(alloc: Global, text: &str) -> Result<Text, AllocError>
         ensures { IfOk result (λ t. t ≡ text.now) }

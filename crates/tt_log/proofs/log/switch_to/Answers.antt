@@ -1,13 +1,13 @@
 use Rattle.std.proofs.Common.{◌≡◌, ◌<◌, ◌^◌, refl, ◌∷◌, ◌++◌, [], ℕ, List, length, drop, sym, ap, ◌∙◌, subst, arith}
 use Rattle.std.proofs.lemmas.List.{append-nil, drop_all}
-use Rattle.tt_value.specs.WordLaws.{length-be}
+use Rattle.tt_value.specs.WordLaws.{length-big_endian}
 use Rattle.tt_record.specs.declared.entry.Entry.TheVariants.{Switch}
 use Rattle.tt_record.specs.Entries.{entry_bytes, length_of, IsBody}
 use Rattle.tt_record.specs.BodyLaws.{entry_body}
 use Rattle.tt_log.proofs.log.switch_to.Goals as goal
 
 five : (next : ℕ) → length_of (Switch next) ≡ 5
-five next = omega (arith, length-be 4 next)
+five next = omega (arith, length-big_endian 4 next)
 
 written : (next : ℕ) (old new : List ℕ) → length old ≡ 5 → new ≡ entry_bytes (Switch next) ++ drop (length_of (Switch next)) old → new ≡ entry_bytes (Switch next)
 written next old new long is =

@@ -1,6 +1,7 @@
 use Rattle.tt_disk.specs.declared.volume.Name.TheVariants.{Log as LogFile}
-use Rattle.std.proofs.Common.{sym, refl}
+use Rattle.std.proofs.Common.{◌≡◌, sym, refl}
 use Rattle.tt_log.proofs.Following.{start_past, end_answered, end_refused, first_refused}
+use Rattle.tt_log.proofs.Taking.{taken_all}
 use Rattle.tt_log.proofs.start.find_entries.Goals as goal
 
 pub returns-then-from-ge-LOG_FILES_END-clause-exact : goal.returns-then-from-ge-LOG_FILES_END-clause-exact
@@ -14,3 +15,9 @@ pub returns-in-Err-clause-exact : goal.returns-in-Err-clause-exact
 returns-in-Err-clause-exact g c told =
     first_refused c.args.from (g.V.Volume.now c.args.volume.now) c.in-Err.refusal c.if-from-ge-LOG_FILES_END.false
     (end_refused c.args.from.offset c.args.from.file _ _ c.read_file.result c.in-Err.refusal (c.read_file.ensures.exact told) c.in-Err.is refl)
+
+pub returns-in-Ok-clause-given : goal.returns-in-Ok-clause-given
+returns-in-Ok-clause-given g c told =
+    let same : g.V.Volume.now c.read_file.new.volume ≡ g.V.Volume.now c.args.volume.now = λ i n. (c.read_file.ensures.keeps told).reads n i in
+    taken_all c.args.from.file (g.T.Taker.took c.args.taker.now) (g.T.Taker.took c.read_file.new.taker) (g.T.Taker.took c.follow_from.new.taker) (g.V.Volume.now c.args.volume.now) (g.V.Volume.now c.read_file.new.volume) c.in-Ok.first c.follow_from.result
+    (end_answered c.args.from.offset c.args.from.file _ _ c.read_file.result c.in-Ok.first (c.read_file.ensures.exact told) c.in-Ok.is refl).end_is (c.in-Ok.ensures.given told) same (c.follow_from.ensures.given told)

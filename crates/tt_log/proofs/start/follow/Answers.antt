@@ -1,7 +1,9 @@
-use Rattle.std.proofs.Common.{◌<◌, ◌+◌, arith}
+use Rattle.std.proofs.Common.{◌<◌, ◌+◌, ap, arith}
 use Rattle.tt_disk.specs.declared.volume.Name.TheVariants.{Log as LogFile}
 use Rattle.tt_disk.specs.Laws.{keeps_then_keeps}
 use Rattle.tt_log.proofs.Following.{gone_more, gone_end, gone_refused, end_answered, end_refused}
+use Rattle.tt_log.specs.Walk.{file_read}
+use Rattle.tt_log.proofs.Taking.{files_more, files_end, part_same}
 use Rattle.tt_log.proofs.start.follow.Goals as goal
 
 pub returns-in-Err-clause-exact : goal.returns-in-Err-clause-exact
@@ -23,8 +25,14 @@ files-preserved g c =
       keeps = λ told. keeps_then_keeps _ _ _ _ _ _ (c.files.invariant.keeps told) (c.read_file.ensures.keeps told);
       gone = λ told. gone_more c.args.number c.files.file (g.V.Volume.now c.args.volume.now) c.files.end c.files.invariant.below (c.files.invariant.gone told) (c.files.invariant.end told) c.files-test.true;
       end = λ told. (end_answered 0 (c.files.file + 1) _ _ c.read_file.result c.in-Ok.next (c.read_file.ensures.exact told) c.in-Ok.is ((c.files.invariant.keeps told).reads (LogFile (c.files.file + 1)))).end_is;
+      given = λ told. files_more c.args.number c.files.file (g.T.Taker.took c.args.taker.now) (g.T.Taker.took c.files.taker) (g.T.Taker.took c.read_file.new.taker) (g.V.Volume.now c.args.volume.now) c.files.end c.files.invariant.below (c.files.invariant.given told) (c.files.invariant.end told) c.files-test.true
+          (part_same (c.files.file + 1) (g.T.Taker.took c.files.taker) (g.T.Taker.took c.read_file.new.taker) _ _ (ap (file_read (c.files.file + 1)) ((c.files.invariant.keeps told).reads (LogFile (c.files.file + 1)))) (c.in-Ok.ensures.given told));
     }
 
 pub returns-clause-exact : goal.returns-clause-exact
 returns-clause-exact g c told =
     gone_end c.args.number c.files.file (g.V.Volume.now c.args.volume.now) c.files.end c.files.invariant.below (c.files.invariant.gone told) (c.files.invariant.end told) c.files-test.false
+
+pub returns-clause-given : goal.returns-clause-given
+returns-clause-given g c told =
+    files_end c.args.number c.files.file (g.T.Taker.took c.args.taker.now) (g.T.Taker.took c.files.taker) (g.V.Volume.now c.args.volume.now) c.files.end c.files.invariant.below (c.files.invariant.given told) (c.files.invariant.end told) c.files-test.false

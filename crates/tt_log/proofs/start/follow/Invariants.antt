@@ -4,6 +4,7 @@ use Rattle.tt_disk.specs.Volume.{Keeps}
 use Rattle.tt_log.specs.Walk.{file_read}
 use Rattle.tt_log.specs.Ends.{IsEnd, IsInRange}
 use Rattle.tt_log.proofs.Following.{GoneTo}
+use Rattle.tt_log.proofs.Taking.{TakesFiles}
 use Rattle.tt_log.proofs.start.follow.Given as goal
 
 abbrev pub decreases-files : goal.decreases-files
@@ -18,4 +19,5 @@ invariant-files g l = record {
   keeps : g.V.Volume.told → Keeps (g.V.Volume.now l.initial.volume) (g.V.Volume.now l.volume) (g.V.Volume.may l.initial.volume) (g.V.Volume.may l.volume);
   gone : g.V.Volume.told → GoneTo l.number l.file (g.V.Volume.now l.initial.volume);
   end : g.V.Volume.told → IsEnd (file_read l.file (g.V.Volume.now l.initial.volume (LogFile l.file))) l.end;
+  given : g.V.Volume.told → TakesFiles l.number l.file (g.T.Taker.took l.initial.taker) (g.T.Taker.took l.taker) (g.V.Volume.now l.initial.volume);
 }

@@ -3,7 +3,7 @@ use Rattle.tt_disk.specs.Laws.{keeps_then_keeps}
 use Rattle.tt_log.specs.Logs.{or_none}
 use Rattle.tt_log.proofs.Forcing.{no_entries}
 use Rattle.tt_log.proofs.Opening.{kept_end, end_kept, opened}
-use Rattle.tt_log.proofs.log.Log.start.Goals as goal
+use Rattle.tt_log.proofs.log.Log.start_giving.Goals as goal
 
 pub open_last-requires : goal.open_last-requires
 open_last-requires g c = record {

@@ -1,5 +1,5 @@
--- The walk from a later file.
-use Rattle.std.proofs.Common.{◌≡◌, ◌≤◌, ◌<◌, ◌+◌, ◌⊎◌, inl, inr, ℕ, zero, suc, List, [], ◌∷◌, ◌++◌, filter, refl, sym, ap, ◌∙◌, subst, Bool, true, false, arith, Result, Ok, Err, nat_le, if◌then◌else◌}
+-- What is found from a later file of a log on.
+use Rattle.std.proofs.Common.{◌≡◌, ◌≤◌, ◌<◌, ◌+◌, ◌-◌, ◌⊎◌, inl, inr, ℕ, zero, suc, List, [], ◌∷◌, ◌++◌, filter, refl, sym, ap, ◌∙◌, subst, Bool, true, false, arith, Result, Ok, Err, nat_le, if◌then◌else◌}
 use Rattle.std.proofs.lemmas.Bool.{le-leb, cases_eq}
 use Rattle.std.proofs.lemmas.Bool.Decides.{nat_tests}
 use Rattle.std.proofs.lemmas.List.Elements.{filter-append}
@@ -9,9 +9,14 @@ use Rattle.tt_value.specs.declared.position.Position.{Position}
 use Rattle.tt_record.specs.Entries.{length_of}
 use Rattle.tt_log.specs.Lengths.{total}
 use Rattle.tt_log.specs.declared.refusal.LogRefusal.{LogRefusal}
-use Rattle.tt_log.specs.Walk.{Files, Part, file_read, Found, placed, in_front, on_part, walk, is_since, since}
+use Rattle.tt_log.specs.Walk.{Files, Part, file_read, Found, placed, in_front, on_part, walk, log_of, is_since, since}
 use Rattle.tt_record.specs.Places.{position}
-use Rattle.tt_log.proofs.Walks.{found_ok, same_found}
+
+abbrev pub found_ok : Found → Result Found LogRefusal
+found_ok found = Ok found
+
+pub same_found : (x y : Found) → found_ok x ≡ found_ok y → x ≡ y
+same_found x y is = cc
 
 not_le : (a b : ℕ) → b < a → nat_le a b ≡ false
 not_le a b below = grind (arith, nat_tests)
@@ -57,7 +62,7 @@ keeps_front k n found deep es le is again =
 keeps_only : (k n : ℕ) (found : Found) → k ≤ n → Only n found → filter (is_since k) found.entries ≡ found.entries
 keeps_only k n found le o = ap (λ (f : Found). filter (is_since k) f.entries) o.is ∙ all_since k n 0 o.es le ∙ sym (ap (λ (f : Found). f.entries) o.is)
 
-pub all_later : (most n k : ℕ) (files : Files) (found : Found) → k ≤ n → walk most n files ≡ Ok found → filter (is_since k) found.entries ≡ found.entries
+all_later : (most n k : ℕ) (files : Files) (found : Found) → k ≤ n → walk most n files ≡ Ok found → filter (is_since k) found.entries ≡ found.entries
 all_later zero n k files found le is = absurd (let bad = is in cc)
 all_later (suc most) n k files found le is = elim (by_part most n files found (file_read n (files (Log n))) is) [
   | inl o ↦ keeps_only k n found le o
@@ -73,7 +78,7 @@ drops_front k n found deep es below is =
     ∙ ap (λ (l : List (Position × Entry)). found_ok (record { entries = l; end = deep.end })) (filter-append (is_since k) (placed n 0 es) deep.entries ∙ ap (λ (l : List (Position × Entry)). l ++ filter (is_since k) deep.entries) (none_since k n 0 es below)))
 
 -- the walk from a later file gives the rest
-pub later : (most n k j : ℕ) (files : Files) (found : Found) → n ≤ k → k ≤ found.end.file → j + k ≡ most + n → walk most n files ≡ Ok found → walk j k files ≡ since k (Ok found)
+later : (most n k j : ℕ) (files : Files) (found : Found) → n ≤ k → k ≤ found.end.file → j + k ≡ most + n → walk most n files ≡ Ok found → walk j k files ≡ since k (Ok found)
 later zero n k j files found low high fuel is = absurd (let bad = is in cc)
 later (suc most) n k j files found low high fuel is = elim (cases_eq n k) [
   | inl same ↦ subst (λ i. walk j i files ≡ since i (found_ok found)) same
@@ -83,3 +88,21 @@ later (suc most) n k j files found low high fuel is = elim (cases_eq n k) [
     | inr f ↦ later most (n + 1) k j files f.deep (omega arith) (let e : found.end.file ≡ f.deep.end.file = ap (λ (g : Found). g.end.file) f.is in omega arith) (omega arith) f.goes ∙ drops_front k n found f.deep f.es (omega arith) f.is
   ]
 ]
+
+-- no walk ends past the greatest number
+ends_below : (most n : ℕ) (files : Files) (found : Found) → walk most n files ≡ Ok found → found.end.file < n + most
+ends_below zero n files found is = absurd (let bad = is in cc)
+ends_below (suc most) n files found is = elim (by_part most n files found (file_read n (files (Log n))) is) [
+  | inl o ↦ (let e : found.end.file ≡ n = ap (λ (f : Found). f.end.file) o.is in omega (arith, e))
+  | inr f ↦
+      (let e : found.end.file ≡ f.deep.end.file = ap (λ (g : Found). g.end.file) f.is in
+      let deep = ends_below most (n + 1) files f.deep f.goes in
+      omega (arith, e, deep))
+]
+
+-- From a later file on, up to the one where the log ends, the walk finds the entries of that file and those behind it.
+pub log_from_later : (first k : ℕ) (files : Files) (found : Found) → first ≤ k → k ≤ found.end.file → log_of first files ≡ Ok found → log_of k files ≡ since k (Ok found)
+unfolding log_of
+log_from_later first k files found low high is =
+    let below = ends_below (1000000 - first) first files found is in
+    later (1000000 - first) first k (1000000 - k) files found low high (omega (arith, low, high, below)) is

@@ -1,0 +1,179 @@
+-- Entries that are handed over, one after another.
+use Rattle.std.proofs.Common.{◌≡◌, ◌<◌, ◌≤◌, ◌+◌, ℕ, List, [], ◌∷◌, ◌++◌, length, drop, Bool, true, false, Option, Some, None, Result, Ok, Err, refl, sym, ap, ◌∙◌, subst, arith, append_assoc, length-drop}
+use Rattle.std.specs.Prelude.{OnOk}
+use Rattle.std.proofs.lemmas.List.{append-nil, drop-drop}
+use Rattle.tt_disk.specs.declared.volume.Name.TheVariants.{Log}
+use Rattle.tt_value.specs.declared.position.Position.{Position}
+use Rattle.tt_record.specs.declared.entry.Entry.{Entry}
+use Rattle.tt_record.specs.Places.{position}
+use Rattle.tt_record.specs.Reading.{entry_at, entries_of}
+use Rattle.tt_record.specs.BodyLaws.{entries_step, entries_bad, entries_end}
+use Rattle.tt_log.specs.Bodies.{joined}
+use Rattle.tt_log.specs.Lengths.{total}
+use Rattle.tt_log.specs.declared.file.FileEnd.{FileEnd}
+use Rattle.tt_log.specs.declared.file.Reached.{Reached}
+use Rattle.tt_log.specs.declared.file.Went.{Went}
+use Rattle.tt_log.specs.declared.file.Went.TheVariants.{On, Ends}
+use Rattle.tt_log.specs.declared.refusal.LogRefusal.{LogRefusal}
+use Rattle.tt_log.specs.Walk.{Files, Part, before, file_read, placed, in_front, on_part, log_of}
+use Rattle.tt_log.specs.Rests.{rest_read, IsHeaded, IsPlain}
+use Rattle.tt_log.specs.Logs.{entries_in}
+use Rattle.tt_log.specs.Ends.{IsEnd}
+use Rattle.tt_log.specs.Takes.{Takes, TakesOne, TakesPart, TakesUpTo, TakesOn, TakesLog, at_first}
+use Rattle.tt_log.proofs.Sums.{total_more}
+use Rattle.tt_log.proofs.Walks.{placed_more, in_front_twice}
+use Rattle.tt_log.proofs.Skips.{joined_none, joined_behind, rest_of}
+use Rattle.tt_log.proofs.Heads.{file_headed}
+use Rattle.tt_log.proofs.Reaching.{before_twice, none_before}
+use Rattle.tt_log.proofs.Following.{log_step, in_front_none}
+
+abbrev pub Took : Type 1
+Took = List (Position × Entry) → Type 0
+
+pub takes_none : (took : Took) → Takes took took []
+takes_none took ps t = subst took (sym (append-nil ps)) t
+
+takes_then : (old mid new : Took) (xs ys : List (Position × Entry)) → Takes old mid xs → Takes mid new ys → Takes old new (xs ++ ys)
+takes_then old mid new xs ys one two ps t = subst new (append_assoc ps xs ys) (two (ps ++ xs) (one ps t))
+
+-- ---- the entries of a body
+
+-- those before an offset
+pub record Handed (old now : Took) (bytes : List ℕ) (n offset at : ℕ) : Type 0 where
+  pub es : List Entry
+  pub is : entries_of bytes ≡ joined es (entries_of (drop at bytes))
+  pub long : total es ≡ at
+  pub takes : Takes old now (placed n offset es)
+
+pub handed_none : (took : Took) (bytes : List ℕ) (n offset : ℕ) → Handed took took bytes n offset 0
+handed_none took bytes n offset = record { es = []; is = joined_none (entries_of bytes); long = refl; takes = takes_none took }
+
+pub handed_one : (old mid new : Took) (bytes : List ℕ) (n offset at k : ℕ) (place : Position) → place ≡ position n (offset + at) → Handed old mid bytes n offset at → TakesOne mid new bytes at k place → Handed old new bytes n offset (at + k)
+handed_one old mid new bytes n offset at k place here s t =
+    let h = t.has in
+    let there : place ≡ position n (offset + total s.es) = here ∙ ap (λ (j : ℕ). position n (offset + j)) (sym s.long) in
+    record {
+      es = s.es ++ h.entry ∷ [];
+      is = s.is ∙ ap (joined s.es) (entries_step (drop at bytes) h.entry k h.is) ∙ joined_behind s.es h.entry (entries_of (drop k (drop at bytes))) ∙ ap (λ (l : List ℕ). joined (s.es ++ h.entry ∷ []) (entries_of l)) (drop-drop k at bytes);
+      long = total_more s.es (h.entry ∷ []) ∙ omega (arith, s.long, h.long);
+      takes = subst (Takes old new) (ap (λ (q : Position). placed n offset s.es ++ (q, h.entry) ∷ []) there ∙ sym (placed_more n offset s.es (h.entry ∷ [])))
+          (takes_then old mid new (placed n offset s.es) ((place, h.entry) ∷ []) s.takes t.takes);
+    }
+
+same_entries : (es fs : List Entry) → ◌≡◌ {A = Option (List Entry)} (Some es) (Some fs) → es ≡ fs
+same_entries es fs is = cc
+
+pub handed_all : (old now : Took) (bytes : List ℕ) (n offset at : ℕ) (es : List Entry) → length bytes ≤ at → Handed old now bytes n offset at → entries_of bytes ≡ Some es → Takes old now (placed n offset es)
+handed_all old now bytes n offset at es above s is =
+    let none = entries_end (drop at bytes) (omega (arith, length-drop at bytes, above)) in
+    let same : s.es ≡ es = sym (append-nil s.es) ∙ same_entries (s.es ++ []) es (sym (s.is ∙ ap (joined s.es) none) ∙ is) in
+    subst (λ (l : List Entry). Takes old now (placed n offset l)) same s.takes
+
+pub handed_bad : (old now : Took) (bytes : List ℕ) (n offset at : ℕ) (es : List Entry) → at < length bytes → Handed old now bytes n offset at → entry_at (drop at bytes) ≡ None → entries_of bytes ≡ Some es → ⊥
+handed_bad old now bytes n offset at es below s none is =
+    let r = rest_of s.es es (entries_of (drop at bytes)) (sym s.is ∙ is) in
+    let bad = entries_bad (drop at bytes) (omega (arith, length-drop at bytes)) none in
+    let clash : ◌≡◌ {A = Option (List Entry)} None (Some r.gs) = sym bad ∙ r.is in cc
+
+-- ---- the entries of a file
+
+pub up_to_first : (n : ℕ) (took : Took) (file : Option (List ℕ)) (at : Reached) → at.gate ≡ 16 → at.offset ≡ 0 → TakesUpTo n took took at_first at file
+up_to_first n took file at gate offset = record {
+  es = [];
+  goes = none_before (rest_read n 16 0 file) ∙ ap (λ (k : ℕ). before [] (rest_read n k 0 file)) (sym gate) ∙ ap (λ (k : ℕ). before [] (rest_read n at.gate k file)) (sym offset);
+  long = omega (arith, offset);
+  takes = takes_none took;
+}
+
+pub up_to_more : (n : ℕ) (old mid new : Took) (a b c : Reached) (file : Option (List ℕ)) → TakesUpTo n old mid a b file → TakesUpTo n mid new b c file → TakesUpTo n old new a c file
+up_to_more n old mid new a b c file x y = record {
+  es = x.es ++ y.es;
+  goes = x.goes ∙ ap (before x.es) y.goes ∙ before_twice x.es y.es (rest_read n c.gate c.offset file);
+  long = omega (arith, x.long, y.long, total_more x.es y.es);
+  takes = subst (Takes old new) (ap (λ (k : ℕ). placed n a.offset x.es ++ placed n k y.es) x.long ∙ sym (placed_more n a.offset x.es y.es))
+      (takes_then old mid new (placed n a.offset x.es) (placed n b.offset y.es) x.takes y.takes);
+}
+
+-- one batch more
+pub up_to_behind : (n : ℕ) (old new : Took) (at next : Reached) (file : Option (List ℕ)) (body : List ℕ) → IsPlain n at.gate at.offset file body → next.gate ≡ at.gate + 9 + length body → next.offset ≡ at.offset + length body
+    → ((es : List Entry) → entries_of body ≡ Some es → Takes old new (placed n at.offset es)) → TakesUpTo n old new at next file
+up_to_behind n old new at next file body p gate offset given = record {
+  es = p.es;
+  goes = p.goes ∙ ap (λ (k : ℕ). before p.es (rest_read n k (at.offset + length body) file)) (sym gate) ∙ ap (λ (k : ℕ). before p.es (rest_read n next.gate k file)) (sym offset);
+  long = omega (arith, offset, p.long);
+  takes = given p.es p.is;
+}
+
+pub went_on : (n : ℕ) (old new : Took) (at next : Reached) (file : Option (List ℕ)) (r : Result Went LogRefusal) (w : Went) → TakesOn n old new at file r → r ≡ Ok w → w ≡ On next → TakesUpTo n old new at next file
+went_on n old new at next file r w says is one =
+    let P : Result Went LogRefusal → Type 0 = λ q. TakesOn n old new at file q in
+    subst P (is ∙ ap (λ (k : Went). Ok k) one) says
+
+pub went_to_end : (n : ℕ) (old new : Took) (at : Reached) (end : FileEnd) (file : Option (List ℕ)) (r : Result Went LogRefusal) (w : Went) → TakesOn n old new at file r → r ≡ Ok w → w ≡ Ends end → (rest_read n at.gate at.offset file ≡ Ok ([], end.turned)) × Takes old new []
+went_to_end n old new at end file r w says is one =
+    let P : Result Went LogRefusal → Type 0 = λ q. TakesOn n old new at file q in
+    subst P (is ∙ ap (λ (k : Went). Ok k) one) says
+
+abbrev whole_part : List Entry → Bool → Part
+whole_part es turned = Ok (es, turned)
+
+same_part : (es fs : List Entry) (a b : Bool) → whole_part es a ≡ whole_part fs b → es ≡ fs
+same_part es fs a b is = let e : ◌≡◌ {A = List Entry × Bool} (es, a) (fs, b) = cc in ap (λ (p : List Entry × Bool). p.0) e
+
+pub up_to_end : (n : ℕ) (old mid new : Took) (at : Reached) (end : FileEnd) (file : Option (List ℕ)) → TakesUpTo n old mid at_first at file → (rest_read n at.gate at.offset file ≡ Ok ([], end.turned)) × Takes mid new [] → TakesPart n old new (rest_read n 16 0 file)
+up_to_end n old mid new at end file x ends es turned is =
+    let whole : rest_read n 16 0 file ≡ Ok (x.es ++ [], end.turned) = x.goes ∙ ap (before x.es) ends.0 in
+    let same : x.es ≡ es = sym (append-nil x.es) ∙ same_part (x.es ++ []) es end.turned turned (sym whole ∙ is) in
+    subst (λ (l : List Entry). Takes old new (placed n 0 l)) same
+    (subst (Takes old new) (append-nil (placed n 0 x.es)) (takes_then old mid new (placed n 0 x.es) [] x.takes ends.1))
+
+pub part_read : (n : ℕ) (old new : Took) (file other : Option (List ℕ)) (r : Result FileEnd LogRefusal) → IsHeaded n other → file ≡ other → OnOk r (TakesPart n old new (rest_read n 16 0 file)) → OnOk r (TakesPart n old new (file_read n other))
+part_read n old new file other r headed same is =
+    subst (λ (p : Part). OnOk r (TakesPart n old new p)) (ap (rest_read n 16 0) same ∙ sym (file_headed n other headed)) is
+
+pub part_same : (n : ℕ) (old new : Took) (part other : Part) → part ≡ other → TakesPart n old new part → TakesPart n old new other
+part_same n old new part other same t = subst (λ (p : Part). TakesPart n old new p) same t
+
+-- ---- the entries of all files
+
+-- those of the files up to this one
+pub record TakesFiles (n k : ℕ) (old now : Took) (files : Files) : Type 0 where
+  pub front : List (Position × Entry)
+  pub is : log_of n files ≡ in_front front (log_of k files)
+  pub takes : (fs : List Entry) (b : Bool) → file_read n (files (Log n)) ≡ Ok (fs, b) → (es : List Entry) (c : Bool) → file_read k (files (Log k)) ≡ Ok (es, c)
+      → (ps : List (Position × Entry)) → old (ps ++ placed n 0 fs) → now ((ps ++ front) ++ placed k 0 es)
+
+pub files_none : (n : ℕ) (took : Took) (files : Files) → TakesFiles n n took took files
+files_none n took files = record {
+  front = [];
+  is = in_front_none (log_of n files);
+  takes = λ fs b one es c two ps t.
+      let same : fs ≡ es = same_part fs es b c (sym one ∙ two) in
+      subst took (ap (λ (l : List Entry). ps ++ placed n 0 l) same ∙ ap (λ (l : List (Position × Entry)). l ++ placed n 0 es) (sym (append-nil ps))) t;
+}
+
+pub files_more : (n k : ℕ) (old mid new : Took) (files : Files) (end : FileEnd) → k < 1000000 → TakesFiles n k old mid files → IsEnd (file_read k (files (Log k))) end → end.turned ≡ true
+    → TakesPart (k + 1) mid new (file_read (k + 1) (files (Log (k + 1)))) → TakesFiles n (k + 1) old new files
+files_more n k old mid new files end below g e turned part = record {
+  front = g.front ++ placed k 0 e.es;
+  is = g.is ∙ ap (in_front g.front) (log_step k files below ∙ ap (λ p. on_part k p (log_of (k + 1) files)) (e.is ∙ ap (λ (b : Bool). Ok (e.es, b)) turned))
+      ∙ in_front_twice g.front (placed k 0 e.es) (log_of (k + 1) files);
+  takes = λ fs b one es c two ps t.
+      let m : mid ((ps ++ g.front) ++ placed k 0 e.es) = g.takes fs b one e.es end.turned e.is ps t in
+      subst (λ (l : List (Position × Entry)). new (l ++ placed (k + 1) 0 es)) (append_assoc ps g.front (placed k 0 e.es)) (part es c two ((ps ++ g.front) ++ placed k 0 e.es) m);
+}
+
+pub files_end : (n k : ℕ) (old new : Took) (files : Files) (end : FileEnd) → k < 1000000 → TakesFiles n k old new files → IsEnd (file_read k (files (Log k))) end → end.turned ≡ false → TakesLog n old new files
+files_end n k old new files end below g e turned fs b one ps t =
+    let all : entries_in (log_of n files) ≡ g.front ++ placed k 0 e.es =
+    ap entries_in (g.is ∙ ap (in_front g.front) (log_step k files below ∙ ap (λ p. on_part k p (log_of (k + 1) files)) (e.is ∙ ap (λ (c : Bool). Ok (e.es, c)) turned))) in
+    subst new (append_assoc ps g.front (placed k 0 e.es) ∙ ap (λ (l : List (Position × Entry)). ps ++ l) (sym all)) (g.takes fs b one e.es end.turned e.is ps t)
+
+-- the first file, and then all
+pub log_taken : (n : ℕ) (old mid new : Took) (files : Files) (end : FileEnd) → IsEnd (file_read n (files (Log n))) end → TakesPart n old mid (file_read n (files (Log n))) → TakesLog n mid new files → Takes old new (entries_in (log_of n files))
+log_taken n old mid new files end e part more ps t = more e.es end.turned e.is ps (part e.es end.turned e.is ps t)
+
+pub taken_all : (n : ℕ) (old mid new : Took) (files others : Files) (end : FileEnd) (r : Result Position LogRefusal) → IsEnd (file_read n (files (Log n))) end → TakesPart n old mid (file_read n (files (Log n))) → others ≡ files
+    → OnOk r (TakesLog n mid new others) → OnOk r (Takes old new (entries_in (log_of n files)))
+taken_all n old mid new files others end (Ok at) e part same more = log_taken n old mid new files end e part (subst (λ (f : Files). TakesLog n mid new f) same more)
+taken_all n old mid new files others end (Err refusal) e part same more = more

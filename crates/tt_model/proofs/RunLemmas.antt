@@ -1,0 +1,109 @@
+-- The trail goes on over rounds, runs and their end.
+use Rattle.std.proofs.Common.{◌≡◌, ◌++◌, ◌≤◌, length, inl, inr, ◌+◌, ◌-◌, drop, sym, subst, ap, ◌∙◌, arith, length-append, length-drop, drop-drop, ℕ, Bool, true, false, List, [], ◌∷◌, None, refl}
+use Rattle.tt_value.specs.declared.reply.Reply.{Reply}
+use Rattle.tt_record.specs.declared.entry.Entry.TheVariants.{Change, Abort}
+use Rattle.tt_model.specs.State.{State, trail, CellEdit, live_in, place_for, with_edit, with_edits, reversals}
+use Rattle.tt_model.specs.Step.{rolled_back}
+use Rattle.tt_model.specs.Run.{WasToLeave, Line, Run, has_place, ended_one, roll_all, ended}
+use Rattle.tt_model.specs.Trail.{Trail, oldest}
+use Rattle.tt_model.specs.Found.{Found}
+use Rattle.tt_model.specs.Prefix.{StandsForFirst}
+use Rattle.tt_model.specs.Sound.{IsSound}
+use Rattle.tt_model.specs.WholeRuns.{GoesOn, TrailsGoOn, ForcedEntriesAreFound}
+use Rattle.tt_model.proofs.BookmarkLines.{bookmarks_stay}
+use Rattle.tt_model.proofs.GrowLemmas.{Grows, assoc, grows-same, grows-then, grows-with_entry, grows-all_forced, grows-beside, grows-step}
+
+goes_on : (s after : State) → Grows s after → GoesOn s after
+goes_on s after g = record { found = g.found; newer = g.newer; entries = g.entries; forced = λ h. (g.forced h).0 }
+
+-- ---- runs
+
+grows_run : (lines : List Line) (replies : List Reply) (s after : State) → Run s lines replies after → Grows s after
+grows_run [] [] s after is = rw is (grows-same s)
+grows_run (l ∷ ls) (r ∷ rs) s after (mid, step, rest) = grows-then s mid after (grows-step s l.session l.what r mid step) (grows_run ls rs mid after rest)
+grows_run [] (r ∷ rs) s after is = absurd is
+grows_run (l ∷ ls) [] s after is = absurd is
+
+-- ---- the end
+
+grows_edits : (t : ℕ) (edits : List CellEdit) (s : State) → Grows s (with_edits t edits s)
+grows_edits t [] s = grows-same s
+grows_edits t (edit ∷ edits) s =
+    grows-then s (with_edit t edit s) (with_edits t edits (with_edit t edit s)) (grows-with_entry (Change t (place_for edit.place s) edit.before edit.after) s)
+    (grows_edits t edits (with_edit t edit s))
+
+grows_one : (t : ℕ) (s : State) → Grows s (ended_one t s)
+grows_one t s =
+    grows-beside s (rolled_back t s) (ended_one t s) refl refl refl
+    (grows-then s (with_edits t (reversals t s.entries) s) (rolled_back t s) (grows_edits t (reversals t s.entries) s) (grows-with_entry (Abort t) (with_edits t (reversals t s.entries) s)))
+
+grows_next : (t : ℕ) (ts : List ℕ) (s : State) → ((x : State) → Grows x ((roll_all ts x).1)) → (c : Bool) → Grows s ((elim c as (λ x. Bool × State) [ true ↦ roll_all ts (ended_one t s) | false ↦ (false, s) ]).1)
+grows_next t ts s ih true = grows-then s (ended_one t s) ((roll_all ts (ended_one t s)).1) (grows_one t s) (ih (ended_one t s))
+grows_next t ts s ih false = grows-same s
+
+grows_all : (ts : List ℕ) (s : State) → Grows s ((roll_all ts s).1)
+grows_all [] s = grows-all_forced s
+grows_all (t ∷ ts) s = grows_next t ts s (grows_all ts) (has_place t s)
+
+grows_end : (s : State) → Grows s ((ended s).1)
+unfolding ended
+grows_end s =
+    grows-then s (record s { underway = None }) ((roll_all (live_in s) (record s { underway = None })).1) (grows-beside s s (record s { underway = None }) refl refl refl (grows-same s))
+    (grows_all (live_in s) (record s { underway = None }))
+
+pub trails_go_on : TrailsGoOn
+trails_go_on = record {
+  step = λ s session what reply after st. goes_on s after (grows-step s session what reply after st);
+  run = λ lines replies s after is. goes_on s after (grows_run lines replies s after is);
+  end = λ s. goes_on s ((ended s).1) (grows_end s);
+}
+
+-- ---- what is forced is found
+
+drop_newer : (newer older : Trail) → drop (length newer) (newer ++ older) ≡ older
+drop_newer [] older = refl
+drop_newer (e ∷ newer) older = drop_newer newer older
+
+oldest_behind : (k : ℕ) (newer older : Trail) → k ≤ length older → oldest k (newer ++ older) ≡ oldest k older
+oldest_behind k newer older few =
+    let count : length (newer ++ older) ≡ length newer + length older = length-append newer older in
+    let e : length (newer ++ older) - k ≡ length newer + (length older - k) = omega (arith, count, few) in
+    ap (λ m. drop m (newer ++ older)) e
+    ∙ (sym (drop-drop (length older - k) (length newer) (newer ++ older))
+    ∙ ap (drop (length older - k)) (drop_newer newer older))
+
+oldest_twice : (k n : ℕ) (xs : Trail) → k ≤ n → n ≤ length xs → oldest k (oldest n xs) ≡ oldest k xs
+oldest_twice k n xs fewer few =
+    let count : length (drop (length xs - n) xs) ≡ length xs - (length xs - n) = length-drop (length xs - n) xs in
+    let e : (length xs - n) + (length (drop (length xs - n) xs) - k) ≡ length xs - k = omega (arith, count, fewer, few) in
+    drop-drop (length (drop (length xs - n) xs) - k) (length xs - n) xs ∙ ap (λ m. drop m xs) e
+
+same_goes_on : (s : State) → GoesOn s s
+same_goes_on s = goes_on s s (grows-same s)
+
+last_goes_on : (end : State → State) (s last : State) → ((x : State) → GoesOn x (end x)) → WasToLeave end s last → GoesOn s last
+last_goes_on end s last on (inl is) = subst (GoesOn s) (sym is) (same_goes_on s)
+last_goes_on end s last on (inr (inl (l, reply, step))) = goes_on s last (grows-step s l.session l.what reply last step)
+last_goes_on end s last on (inr (inr is)) = subst (GoesOn s) (sym is) (on s)
+
+-- the trail of a state that goes on has the former one behind its newer entries
+trail_behind : (s last : State) (g : GoesOn s last) → trail last ≡ g.newer ++ trail s
+trail_behind s last g =
+    ap (λ (es : Trail). es ++ last.found.entries) g.entries
+    ∙ (ap (λ (f : Found). (g.newer ++ s.entries) ++ f.entries) g.found
+    ∙ assoc g.newer s.entries s.found.entries)
+
+pub forced_entries_are_found : ForcedEntriesAreFound
+forced_entries_are_found end begin lines replies f run on sound readers sessions =
+    let s : State = run.state in
+    let last : State = run.last in
+    let g : GoesOn s last = last_goes_on end s last on run.act in
+    let whole : IsSound s = (bookmarks_stay.run lines replies begin s sessions sound readers run.run).0 in
+    let few : s.forced ≤ length (trail s) = (whole.entries).forced_most in
+    let n : ℕ = run.found.0 in
+    let first : StandsForFirst n last f = run.found.2 in (
+      n,
+      first,
+      oldest_twice s.forced n (trail last) (run.found.1) first.most
+          ∙ (ap (oldest s.forced) (trail_behind s last g) ∙ oldest_behind s.forced g.newer (trail s) few),
+    )
