@@ -67,8 +67,8 @@ fn run_in_folder<R: Threads>(
     words: &[String],
 ) -> Result<Status, AllocError> {
     let folder = match words.get(1) {
-        Some(word) => word.as_str(),
-        None => ".",
+        Some(word) if !word.is_empty() => word.as_str(),
+        _ => ".",
     };
     let mut logs = volume(host, alloc, folder, "logs")?;
     let mut images = volume(host, alloc, folder, "images")?;

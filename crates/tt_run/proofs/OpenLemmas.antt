@@ -1,152 +1,228 @@
--- A log file that opens, and its batches.
-use Rattle.std.proofs.Common.{◌≡◌, inl, inr, ◌<◌, ◌≤◌, ◌+◌, ◌&&◌, ℤ, ℕ, Bool, true, false, if◌then◌else◌, List, [], ◌∷◌, ◌++◌, length, take, Option, Some, None, Result, Ok, Err, refl, sym, ap, ◌∙◌, arith, subst}
-use Rattle.std.specs.Prelude.{IsSome}
-use Rattle.std.proofs.lemmas.Bool.{lt-ltb, ltb-true}
-use Rattle.tt_disk.specs.Volume.{size_of, bytes_of}
-use Rattle.std.specs.Str.{bytes_eq}
-use Rattle.std.proofs.Math.Dec.{ltb}
-use Rattle.std.proofs.lemmas.Slice.Eq.{bytes_eq-Decides}
-use Rattle.tt_gate.specs.declared.gate.GateRefusal.{GateRefusal}
-use Rattle.tt_gate.specs.declared.gate.GateRefusal.TheVariants as gate
-use Rattle.tt_gate.specs.Gate.{gated}
-use Rattle.tt_gate.specs.Laws.{walked_bodies, gated_from_walk, whole_from_gated, gated_header, none_in_short}
-use Rattle.tt_gate.specs.Steps.{bodies_at, walked_at}
-use Rattle.tt_gate.proofs.Batches.{and_true, bool_cases}
-use Rattle.tt_run.specs.declared.load.OpenRefusal.{OpenRefusal}
-use Rattle.tt_run.specs.declared.load.OpenRefusal.TheVariants.{NoDatabase, Damaged}
-use Rattle.tt_run.specs.declared.status.Damage.TheVariants.{LogGap}
-use Rattle.tt_run.specs.Opening.{header, has_header, may_follow, rows_through, with_rows, rows_at, opened, Refuses, AreKeys}
-use Rattle.std.specs.BTreeSet.{BTreeSet}
-use Rattle.tt_disk.specs.declared.volume.Name.{Name}
-use Rattle.tt_disk.specs.declared.volume.Name.TheVariants.{Log}
+-- How a run begins.
+use Rattle.std.proofs.Common.{◌≡◌, ◌⊎◌, inl, inr, ◌^◌, ◌+◌, ◌≤◌, ◌∙◌, ℕ, [], List, length, Option, Some, None, Result, Ok, Err, refl, sym, ap, ap₂, subst, arith}
+use Rattle.std.specs.Prelude.{IsSome, option_map}
+use Rattle.tt_disk.specs.Volume.{Keeps, size_of}
+use Rattle.tt_disk.specs.declared.volume.Name.TheVariants.{Log as LogFile}
 use Rattle.tt_gate.specs.Standing.{LeavesAtMost}
-use Rattle.tt_run.specs.Session.{LeavesNoLog, LeavesNoRow}
-use Rattle.tt_run.specs.Rows.{Row, rows_of}
+use Rattle.tt_value.specs.declared.reply.Stop.TheVariants.{Logs, Images, Backups}
+use Rattle.tt_value.specs.declared.position.Position.{Position}
+use Rattle.tt_set.specs.declared.settings.Settings.{Settings}
+use Rattle.tt_log.specs.declared.refusal.LogRefusal.{LogRefusal}
+use Rattle.tt_log.specs.declared.refusal.LogRefusal.TheVariants.{Gap}
+use Rattle.tt_log.specs.Walk.{Files, Found as Read, file_read, log_of, nothing, on_part}
+use Rattle.tt_log.specs.Logs.{LeavesThis, MayLeave}
+use Rattle.tt_log.proofs.Following.{log_step}
+use Rattle.tt_model.specs.Found.{Found}
+use Rattle.tt_model.specs.State.{State}
+use Rattle.tt_recover.specs.Opening.{found_in, newest_first, opening}
+use Rattle.tt_engine.specs.OnwardLaws.{still_before}
+use Rattle.tt_engine.specs.OpeningLaws.{database_opens, read_is}
+use Rattle.tt_engine.specs.Prefixes.{IsSinceOpening, IsStill}
+use Rattle.tt_engine.specs.Starts.{database, opened_in}
+use Rattle.tt_engine.specs.declared.refusal.OpenRefusal.{OpenRefusal}
+use Rattle.tt_run.specs.declared.status.Status.{Status}
+use Rattle.tt_run.specs.declared.status.Status.TheVariants.{Done, ScriptFault, AttributesFault, SinkFault, VolumeFault, NoMemory, Usage, Damaged, Exists, NoDatabase, BadAttribute, LogOut, ScriptTooLong}
+use Rattle.tt_run.specs.Openings.{EndedEarly, HasNewDatabase, IsBeforeLines, IsCreated, IsFaultOf, IsOpened, IsScriptRunEnd, LeavesNoEntry, LeavesNoLog, mark_place, new_database}
+use Rattle.tt_run.specs.Runs.{IsRun, IsRunEnd}
+use Rattle.tt_run.proofs.RunLemmas.{Outcomes, left_from}
 
-from_rows : (walk : Result (List (List ℕ)) ℕ) (through : Result (List Row) ℕ) (rows : List Row) → with_rows walk through ≡ Ok rows → ((bodies : List (List ℕ)) × (walk ≡ Ok bodies)) × (through ≡ Ok rows)
-from_rows (Ok bodies) (Ok found) rows is = ((bodies, refl), cc)
-from_rows (Ok bodies) (Err at) rows is = cc
-from_rows (Err b) (Ok found) rows is = cc
-from_rows (Err b) (Err at) rows is = cc
+-- ---- the first log file
 
-same_bytes : (xs ys : List ℕ) → bytes_eq xs ys ≡ true → xs ≡ ys
-same_bytes xs ys is = (bytes_eq-Decides xs ys).0 is
+no_file : (files : Files) → files (LogFile 0) ≡ None → log_of 0 files ≡ Err (Gap 0)
+unfolding file_read
+no_file files none = log_step 0 files (omega arith) ∙ ap (λ (o : Option (List ℕ)). on_part 0 (file_read 0 o) (log_of (0 + 1) files)) none
 
-abbrev found_with : List ℕ → List (List ℕ) → Result (List ℕ × List (List ℕ)) GateRefusal
-found_with first bodies = Ok (first, bodies)
+pub record IsThere (files : Files) : Type 0 where
+  pub file : List ℕ
+  pub is : files (LogFile 0) ≡ Some file
 
-equal_bytes : (xs : List ℕ) → bytes_eq xs xs ≡ true
-equal_bytes xs = (bytes_eq-Decides xs xs).1 refl
-
--- a log file that opens has the header, and batches whose rows those are
-pub opened_gated : (o : Option (List ℕ)) (rows : List Row) → opened o ≡ Ok rows → (bodies : List (List ℕ)) × (gated o ≡ Ok (header, bodies)) × (rows_through [] 16 bodies ≡ Ok rows)
-unfolding opened rows_at
-opened_gated None rows is = cc
-opened_gated (Some file) rows is = by_header (has_header file) refl is
+there : (files : Files) (read : Read) → log_of 0 files ≡ Ok read → IsThere files
+there files read is = by (files (LogFile 0)) refl
   where
-    by_header : (b : Bool) → has_header file ≡ b → (if b then rows_at 16 [] file else Err (Damaged (LogGap 0))) ≡ Ok rows
-        → (bodies : List (List ℕ)) × (gated (Some file) ≡ Ok (header, bodies)) × (rows_through [] 16 bodies ≡ Ok rows)
-    by_header true head e =
-        let (long, same) = and_true (ltb 16 (length file)) (bytes_eq (take 16 file) header) head in
-        let ((bodies, walk), through) = from_rows (walked_at 16 file) (rows_through [] 16 (bodies_at 16 file)) rows e in (
-          bodies,
-          gated_from_walk file bodies (ltb-true 16 (length file) long) walk ∙ ap (λ (h : List ℕ). found_with h bodies) (same_bytes (take 16 file) header same),
-          ap (rows_through [] 16) (sym (walked_bodies 16 file bodies walk)) ∙ through,
-        )
-    by_header false head e = cc
+    by : (o : Option (List ℕ)) → files (LogFile 0) ≡ o → IsThere files
+    by (Some file) same = record { file = file; is = same }
+    by None same = let refused : log_of 0 files ≡ Err (Gap 0) = no_file files same in cc
 
--- the rows of one batch more
-abbrev choose : Bool → List Row → ℕ → List ℕ → List (List ℕ) → Result (List Row) ℕ
-choose test rows at body bodies = if test then rows_through (rows ++ rows_of body) (at + 9 + length body) bodies else Err at
+pub database_found : (files : Files) (found : Found) → opening files ≡ Ok found → database files ≡ Ok found
+database_found files found is =
+    let read = read_is files found is in
+    let file = there files read.read read.is in
+    ap₂ opened_in file.is is
 
-pub through_push : (found : List Row) (at : ℕ) (bodies : List (List ℕ)) (body : List ℕ) (rows : List Row) → rows_through found at bodies ≡ Ok rows → may_follow rows body ≡ true
-    → rows_through found at (bodies ++ body ∷ []) ≡ Ok (rows ++ rows_of body)
-through_push found at [] body rows is test =
-    let same : found ≡ rows = cc in
-    ap (λ (r : List Row). rows_through r at (body ∷ [])) same ∙ ap (λ b. choose b rows at body []) test
-through_push found at (b ∷ bodies) body rows is test = elim (bool_cases (may_follow found b)) [
-  | inl fits ↦
-      let rest : rows_through (found ++ rows_of b) (at + 9 + length b) bodies ≡ Ok rows = sym (ap (λ t. choose t found at b bodies) fits) ∙ is in
-      ap (λ t. choose t found at b (bodies ++ body ∷ [])) fits ∙ through_push (found ++ rows_of b) (at + 9 + length b) bodies body rows rest test
-  | inr not_fits ↦ let bad : ◌≡◌ {A = Result (List Row) ℕ} (Err at) (Ok rows) = sym (ap (λ t. choose t found at b bodies) not_fits) ∙ is in cc
-]
+-- a database that is refused is one whose log is damaged
+pub record IsDamagedLog (files : Files) : Type 0 where
+  pub refusal : LogRefusal
+  pub is : opening files ≡ Err refusal
 
--- a file with the header
-pub header_there : (o : Option (List ℕ)) → 16 < size_of o → take 16 (bytes_of o) ≡ header → has_header (bytes_of o) ≡ true
-header_there None long head = absurd (omega arith)
-header_there (Some file) long head =
-    ap (λ b. b && bytes_eq (take 16 file) header) (lt-ltb 16 (length file) long) ∙ ap (λ (h : List ℕ). bytes_eq h header) head ∙ equal_bytes header
+pub refused_log : (files : Files) (refusal : OpenRefusal) → database files ≡ Err refusal → IsDamagedLog files
+unfolding opening
+refused_log files refusal is = by (files (LogFile 0)) (opening files) refl refl is
+  where
+    by : (o : Option (List ℕ)) (r : Result Found LogRefusal) → files (LogFile 0) ≡ o → opening files ≡ r → opened_in o r ≡ Err refusal → IsDamagedLog files
+    by None r file log refused = record { refusal = Gap 0; is = ap found_in (no_file files file) }
+    by (Some f) (Ok found) file log refused = cc
+    by (Some f) (Err e) file log refused = record { refusal = e; is = log }
 
-pub header_long : (o : Option (List ℕ)) → has_header (bytes_of o) ≡ true → 16 < size_of o
-header_long None head = cc
-header_long (Some file) head = ltb-true 16 (length file) (and_true (ltb 16 (length file)) (bytes_eq (take 16 file) header) head).0
+-- ---- a new database
 
-pub opened_rows : (o : Option (List ℕ)) → has_header (bytes_of o) ≡ true → opened o ≡ rows_at 16 [] (bytes_of o)
-unfolding opened
-opened_rows None head = cc
-opened_rows (Some file) head = rw head refl
+database_new : (files : Files) → log_of 0 files ≡ Ok nothing → database files ≡ Ok new_database
+unfolding opening
+database_new files is = ap₂ opened_in (there files nothing is).is (ap found_in is)
 
--- and such a file opens
-pub gated_opened : (o : Option (List ℕ)) (bodies : List (List ℕ)) (rows : List Row) → gated o ≡ Ok (header, bodies) → rows_through [] 16 bodies ≡ Ok rows → opened o ≡ Ok rows
-unfolding rows_at
-gated_opened o bodies rows is through =
-    let whole = whole_from_gated o header bodies is in
-    ap opened whole.is ∙ opened_rows (Some whole.file) (header_there (Some whole.file) whole.long whole.header_is)
-    ∙ ap (λ (w : Result (List (List ℕ)) ℕ). with_rows w (rows_through [] 16 (bodies_at 16 whole.file))) whole.walk
-    ∙ ap (λ (l : List (List ℕ)). with_rows (Ok bodies) (rows_through [] 16 l)) (walked_bodies 16 whole.file bodies whole.walk)
-    ∙ ap (with_rows (Ok bodies)) through
+pub new_made : (now : Files) (may : Outcomes) → log_of 0 now ≡ Ok nothing → LeavesThis 0 (Ok nothing) may → HasNewDatabase now may
+new_made now may made leaves = (database_new now made, λ files left. database_new files (leaves files left))
 
--- a file whose batches are whole
-pub whole_header : (o : Option (List ℕ)) (bodies : List (List ℕ)) → gated o ≡ Ok (header, bodies) → has_header (bytes_of o) ≡ true
-whole_header o bodies is = let (long, head) = gated_header o header bodies is in header_there o long head
+-- a file that was sized and isn't there
+pub no_size : (o : Option (List ℕ)) → None ≡ option_map length o → o ≡ None
+no_size None is = refl
+no_size (Some f) is = cc
 
--- a torn file opens with no rows
-pub torn_opens : (o : Option (List ℕ)) (at : ℕ) (rows : List Row) → gated o ≡ Err (gate.BadBatch at) → opened o ≡ Ok rows → ⊥
-torn_opens o at rows torn is =
-    let (bodies, found, through) = opened_gated o rows is in
-    let bad : ◌≡◌ {A = Result (List ℕ × List (List ℕ)) GateRefusal} (Err (gate.BadBatch at)) (Ok (header, bodies)) = sym torn ∙ found in cc
+pub some_size : (o : Option (List ℕ)) (file : List ℕ) → o ≡ Some file → None ≡ option_map length o → ⊥
+some_size None file is sized = let bad : ⊥ = cc in bad
+some_size (Some f) file is sized = let bad : ⊥ = cc in bad
 
--- a walk that met the torn batch and no damage before it
-pub torn_first : (file : List ℕ) (at : ℕ) (rows : List Row) → gated (Some file) ≡ Err (gate.BadBatch at) → has_header file ≡ true → rows_at 16 [] file ≡ Ok rows → ⊥
-unfolding opened
-torn_first file at rows torn head is = torn_opens (Some file) at rows torn (rw head is)
+pub made_done : (o : Option (List ℕ)) (now : Files) (may : Outcomes) → o ≡ None → HasNewDatabase now may → IsCreated o Done now may × IsCreated o SinkFault now may
+made_done None now may none made = (made, made)
+made_done (Some f) now may none made = cc
 
--- no header, no rows
-pub no_header : (o : Option (List ℕ)) → IsSome o → ((16 < size_of o) × (take 16 (bytes_of o) ≡ header) → ⊥) → opened o ≡ Err (Damaged (LogGap 0))
-unfolding opened
-no_header None there lacks = cc
-no_header (Some file) there lacks = elim (bool_cases (has_header file)) [
-  | inl head ↦
-      let (long, same) = and_true (ltb 16 (length file)) (bytes_eq (take 16 file) header) head in
-      absurd (lacks (ltb-true 16 (length file) long, same_bytes (take 16 file) header same))
-  | inr none ↦ rw none refl
-]
-
-pub no_file : (o : Option (List ℕ)) → o ≡ None → opened o ≡ Err NoDatabase
-unfolding opened
-no_file None is = refl
-no_file (Some file) is = cc
-
--- what the keys of a walk say of a file with the header
-pub keys_refused : (o : Option (List ℕ)) (e : OpenRefusal) → has_header (bytes_of o) ≡ true → Refuses (rows_at 16 [] (bytes_of o)) e → Refuses (opened o) e
-keys_refused o e head refuses = subst (λ (r : Result (List Row) OpenRefusal). Refuses r e) (sym (opened_rows o head)) refuses
-
--- a walk that ended well isn't that of a torn file
-pub keys_torn : (o : Option (List ℕ)) (at : ℕ) (set : BTreeSet ℤ) → has_header (bytes_of o) ≡ true → gated o ≡ Err (gate.BadBatch at) → AreKeys (rows_at 16 [] (bytes_of o)) (Ok set) → ⊥
-keys_torn o at set head torn (found, is, has) = torn_opens o at found torn (opened_rows o head ∙ is)
-
--- a log file that is no longer than a new one has no row
-pub small_opens : (o : Option (List ℕ)) (rows : List Row) → size_of o ≤ 17 → opened o ≡ Ok rows → rows ≡ []
-small_opens o rows small is =
-    let (bodies, found, through) = opened_gated o rows is in
-    let none : bodies ≡ [] = none_in_short o header bodies small found in
-    let nothing : rows_through [] 16 [] ≡ Ok rows = subst (λ (l : List (List ℕ)). rows_through [] 16 l ≡ Ok rows) none through in
+pub none_left : (may : Outcomes) → LeavesNoLog may → (files : Files) → MayLeave may files → (found : Found) → opening files ≡ Ok found → found.entries ≡ []
+none_left may none files left found is =
+    let read = read_is files found is in
+    let refused : log_of 0 files ≡ Err (Gap 0) = no_file files (none (files (LogFile 0)) (left (LogFile 0))) in
+    let read_so : log_of 0 files ≡ Ok read.read = read.is in
     cc
 
-none_small : (o : Option (List ℕ)) → o ≡ None → size_of o ≤ 17
-none_small None is = omega arith
-none_small (Some file) is = cc
+-- where nothing was made
+pub no_entry_kept : (old now : Files) (may may' : Outcomes) → Keeps old now may may' → LeavesNoLog may → LeavesNoEntry may'
+no_entry_kept old now may may' keeps none files left found is = none_left may none files (λ name. keeps.crash name (files name) (left name)) found is
 
--- a crash leaves no row where it could leave no log file before, and leaves no more than a new one now
-pub no_row_made : (may_old may_new : Name → Option (List ℕ) → Type 0) → (LeavesAtMost 17 (may_old (Log 0)) → LeavesAtMost 17 (may_new (Log 0))) → LeavesNoLog may_old → LeavesNoRow may_new
-no_row_made may_old may_new short none c left rows is = small_opens c rows (short (λ d before. none_small d (none d before)) c left) is
+-- where a log was to be made
+pub no_entry_made : (old now : Files) (may may' may'' : Outcomes) → Keeps old now may may'
+    → (LeavesAtMost 17 (may' (LogFile 0)) → (files : Files) → MayLeave may'' files → (read : Read) → log_of 0 files ≡ Ok read → read.entries ≡ []) → LeavesNoLog may → LeavesNoEntry may''
+no_entry_made old now may may' may'' keeps short none files left found is =
+    let read = read_is files found is in
+    let few : LeavesAtMost 17 (may' (LogFile 0)) = λ c at. subst (λ (o : Option (List ℕ)). size_of o ≤ 17) (sym (none c (keeps.crash (LogFile 0) c at))) (omega arith) in
+    sym read.entries ∙ ap newest_first (short few files left read.read read.is)
+
+-- ---- how a run may end
+
+-- once lines have begun
+pub not_before : (status : Status) (script sink logs : Type 0) → IsRunEnd status script sink logs → IsBeforeLines status → ⊥
+not_before Done script sink logs ends before = before
+not_before ScriptFault script sink logs ends before = before
+not_before SinkFault script sink logs ends before = before
+not_before ScriptTooLong script sink logs ends before = before
+not_before (VolumeFault stop) script sink logs ends before = before
+not_before AttributesFault script sink logs ends before = ends
+not_before NoMemory script sink logs ends before = ends
+not_before Usage script sink logs ends before = ends
+not_before (Damaged damage) script sink logs ends before = ends
+not_before Exists script sink logs ends before = ends
+not_before NoDatabase script sink logs ends before = ends
+not_before (BadAttribute name) script sink logs ends before = ends
+not_before LogOut script sink logs ends before = ends
+
+opened_end : (settings : Settings) (found : Found) (status : Status) (script sink logs : Type 0) → IsSome (mark_place settings found) → IsRunEnd status script sink logs → IsOpened settings (Ok found) status
+opened_end settings found Done script sink logs place ends = place
+opened_end settings found ScriptFault script sink logs place ends = place
+opened_end settings found SinkFault script sink logs place ends = place
+opened_end settings found ScriptTooLong script sink logs place ends = place
+opened_end settings found (VolumeFault Logs) script sink logs place ends = tt
+opened_end settings found (VolumeFault Images) script sink logs place ends = absurd ends
+opened_end settings found (VolumeFault Backups) script sink logs place ends = absurd ends
+opened_end settings found AttributesFault script sink logs place ends = absurd ends
+opened_end settings found NoMemory script sink logs place ends = absurd ends
+opened_end settings found Usage script sink logs place ends = absurd ends
+opened_end settings found (Damaged damage) script sink logs place ends = absurd ends
+opened_end settings found Exists script sink logs place ends = absurd ends
+opened_end settings found NoDatabase script sink logs place ends = absurd ends
+opened_end settings found (BadAttribute name) script sink logs place ends = absurd ends
+opened_end settings found LogOut script sink logs place ends = absurd ends
+
+-- a run whose lines have begun
+pub opened_lines : (settings : Settings) (files : Files) (found : Found) (status : Status) (script sink logs : Type 0) → opening files ≡ Ok found → IsSome (mark_place settings found) → IsRunEnd status script sink logs
+    → IsOpened settings (database files) status
+opened_lines settings files found status script sink logs is place ends =
+    subst (λ (r : Result Found OpenRefusal). IsOpened settings r status) (sym (database_found files found is)) (opened_end settings found status script sink logs place ends)
+
+pub opened_refused : (settings : Settings) (r : Result Found OpenRefusal) (refusal : OpenRefusal) (status : Status) → r ≡ Err refusal → IsOpened settings (Err refusal) status → IsOpened settings r status
+opened_refused settings r refusal status is so = subst (λ (r : Result Found OpenRefusal). IsOpened settings r status) (sym is) so
+
+pub opened_out : (settings : Settings) (files : Files) (found : Found) → opening files ≡ Ok found → mark_place settings found ≡ None → IsOpened settings (database files) LogOut
+opened_out settings files found is none = subst (λ (r : Result Found OpenRefusal). IsOpened settings r LogOut) (sym (database_found files found is)) none
+
+pub failed_volume : (settings : Settings) (r : Result Found OpenRefusal) → IsOpened settings r (VolumeFault Logs)
+failed_volume settings (Ok found) = tt
+failed_volume settings (Err refusal) = inr tt
+
+pub wanted_memory : (settings : Settings) (r : Result Found OpenRefusal) → IsOpened settings r NoMemory
+wanted_memory settings (Ok found) = tt
+wanted_memory settings (Err refusal) = inr tt
+
+pub failed_attributes : (settings : Settings) (r : Result Found OpenRefusal) → IsOpened settings r AttributesFault
+failed_attributes settings (Ok found) = tt
+failed_attributes settings (Err refusal) = inr tt
+
+same_ok : (r : Result Found LogRefusal) (a b : Found) → r ≡ Ok a → r ≡ Ok b → a ≡ b
+same_ok (Ok x) a b one two = cc
+same_ok (Err e) a b one two = cc
+
+pub same_found : (files : Files) (a b : Found) → opening files ≡ Ok a → database files ≡ Ok b → a ≡ b
+same_found files a b opens is = same_ok (opening files) a b opens (database_opens files b is)
+
+pub found_not_refused : (files : Files) (found : Found) (refusal : OpenRefusal) → opening files ≡ Ok found → database files ≡ Err refusal → ⊥
+found_not_refused files found refusal opens is = let found_so : database files ≡ Ok found = database_found files found opens in let no : ⊥ = cc in no
+
+-- a run, as it is seen from before the database was opened
+pub run_over : (script : List ℕ) (left : Option (List ℕ)) (start : State) (before after : Option (List ℕ)) (status : Status) (P Q : Type 0) (now_1 now_2 now_3 : Files) (may_1 may_2 may_3 : Outcomes)
+    → IsSinceOpening start → (Q → P) → (IsStill start → Keeps now_1 now_2 may_1 may_2) → IsRun script left start before after status P now_2 now_3 may_2 may_3 → IsRun script left start before after status Q now_1 now_3 may_1 may_3
+run_over script left start before after status P Q now_1 now_2 now_3 may_1 may_2 may_3 since settled still run = record {
+  answered_state = run.answered_state;
+  last_state = run.last_state;
+  run = run.run;
+  onward = run.onward;
+  logs = left_from status run.answered_state run.last_state P Q now_1 now_2 now_3 may_1 may_2 may_3 settled (λ is. still ((still_before start run.last_state since run.onward is).0)) run.logs;
+}
+
+none_there : (o : Option Position) → o ≡ None → IsSome o → ⊥
+none_there None none some = let bad : ⊥ = cc in bad
+none_there (Some at) none some = let bad : ⊥ = cc in bad
+
+-- a run ends well where nothing failed
+pub completes : (bytes : List ℕ) (left : Option (List ℕ)) (settings : Settings) (found : Found) (start : State) (before after : Option (List ℕ)) (status : Status) (settled untouched : Type 0) (now_old now_new : Files) (may_old may_new : Outcomes)
+    (script attributes sink logs images backups : Type 0) → EndedEarly status untouched ⊎ IsRun bytes left start before after status settled now_old now_new may_old may_new → IsOpened settings (Ok found) status
+    → IsFaultOf status script attributes sink logs images backups → IsSome (mark_place settings found) → length bytes ≤ 2 ^ 30 → ¬ script → ¬ attributes → ¬ sink → ¬ logs → (status ≡ Done) ⊎ (status ≡ NoMemory)
+completes bytes left settings found start before after status settled untouched now_old now_new may_old may_new script attributes sink logs images backups ran opens fault place short no_script no_attributes no_sink no_logs = by status ran opens fault
+  where
+    by : (status : Status) → EndedEarly status untouched ⊎ IsRun bytes left start before after status settled now_old now_new may_old may_new → IsOpened settings (Ok found) status → IsFaultOf status script attributes sink logs images backups → (status ≡ Done) ⊎ (status ≡ NoMemory)
+    by Done ran opens fault = inl refl
+    by NoMemory ran opens fault = inr refl
+    by ScriptFault ran opens fault = absurd (no_script fault)
+    by AttributesFault ran opens fault = absurd (no_attributes fault)
+    by SinkFault ran opens fault = absurd (no_sink fault)
+    by (VolumeFault Logs) ran opens fault = absurd (no_logs fault)
+    by (VolumeFault Images) ran opens fault = absurd opens
+    by (VolumeFault Backups) ran opens fault = absurd opens
+    by Usage ran opens fault = absurd opens
+    by (Damaged damage) ran opens fault = absurd opens
+    by Exists ran opens fault = absurd opens
+    by NoDatabase ran opens fault = absurd opens
+    by (BadAttribute name) ran opens fault = absurd opens
+    by LogOut ran opens fault = absurd (none_there (mark_place settings found) opens place)
+    by ScriptTooLong (inl early) opens fault = absurd early
+    by ScriptTooLong (inr run) opens fault = let long = run.run.ends.0.0 in absurd (omega (arith, long, short))
+
+pub script_run_cause : (status : Status) (script sink logs : Type 0) → IsScriptRunEnd status script sink logs → IsFaultOf status script ⊥ sink logs ⊥ ⊥
+script_run_cause Usage script sink logs ends = absurd ends
+script_run_cause Exists script sink logs ends = absurd ends
+script_run_cause AttributesFault script sink logs ends = absurd ends
+script_run_cause (BadAttribute name) script sink logs ends = absurd ends
+script_run_cause Done script sink logs ends = ends
+script_run_cause ScriptFault script sink logs ends = ends
+script_run_cause SinkFault script sink logs ends = ends
+script_run_cause (VolumeFault stop) script sink logs ends = ends
+script_run_cause NoMemory script sink logs ends = ends
+script_run_cause (Damaged damage) script sink logs ends = ends
+script_run_cause NoDatabase script sink logs ends = ends
+script_run_cause LogOut script sink logs ends = ends
+script_run_cause ScriptTooLong script sink logs ends = ends

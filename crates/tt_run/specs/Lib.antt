@@ -1,9 +1,7 @@
-pub mod Opening
-pub mod Refusals
+pub mod Openings
 pub mod Replies
 pub mod Requests
-pub mod Rows
 pub mod Runs
-pub mod Session
+pub mod Settings
 pub mod Statuses
 pub mod Words

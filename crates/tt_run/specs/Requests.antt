@@ -1,13 +1,13 @@
 -- What a line asks for.
-use Rattle.std.specs.Prelude.{◌≡◌, ◌==◌, ℕ, Bool, true, false, not, if◌then◌else◌, List, [], ◌∷◌, codes, Option, Some, None, Result, Ok, Err, IsUtf8}
+use Rattle.std.specs.Prelude.{◌≡◌, ◌==◌, ℕ, Bool, true, not, if◌then◌else◌, List, [], ◌∷◌, codes, Option, Some, None, Result, Ok, Err, IsUtf8}
 use Rattle.std.specs.Str.{bytes_eq}
 use Rattle.tt_parse.specs.declared.command.Command.{Command}
 use Rattle.tt_parse.specs.declared.command.Command.TheVariants as command
 use Rattle.tt_parse.specs.Parsing.{Says, IsOffAtByte, is_bare, is_skipped}
 use Rattle.tt_parse.specs.Script as script
 use Rattle.tt_parse.specs.Tokens.{tokens_of}
-use Rattle.tt_run.specs.declared.request.Request.{Request}
-use Rattle.tt_run.specs.declared.request.Request.TheVariants.{Insert, Commit, Refused}
+use Rattle.tt_engine.specs.declared.request.Request.{Request}
+use Rattle.tt_engine.specs.declared.request.Request.TheVariants.{Insert, Commit, Flush, DurableCommit, Bookmark, Refused}
 use Rattle.tt_value.specs.declared.refusal.Refusal.{Refusal}
 use Rattle.tt_value.specs.declared.refusal.Refusal.TheVariants.{NoTable, WrongType, NullRefused, LineTooLong, NoMemory, NotBuilt}
 use Rattle.tt_value.specs.declared.value.Value.{Value}
@@ -21,9 +21,12 @@ row_request (Null ∷ Int value ∷ []) = Refused NullRefused
 row_request (Int key ∷ Null ∷ []) = Refused NullRefused
 row_request _ = Refused WrongType
 
--- what a command asks for in session 1: an insert or a commit; there is no table but kv
+-- what a command asks for in session 1; there is no table but kv
 abbrev pub command_request : Command → Request
 command_request command.Commit = Commit
+command_request command.Flush = Flush
+command_request command.DurableCommit = DurableCommit
+command_request command.Bookmark = Bookmark
 command_request (command.Insert table values) = if bytes_eq table (codes "kv") then row_request values else Refused NoTable
 command_request _ = Refused NotBuilt
 

@@ -1,14 +1,15 @@
 // The text of a reply.
 ghost use Rattle.std.specs.Prelude.{◌≡◌, ◌+◌, ◌≤◌, ◌++◌, ◌∷◌, [], length, codes, decimal};
-ghost use Rattle.tt_run.specs.Replies.{IsShown, text_of, field_words};
+ghost use Rattle.tt_engine.specs.Requests.{IsGiven};
+ghost use Rattle.tt_run.specs.Replies.{text_of, field_words, place_words};
 ghost use Rattle.tt_value.specs.Refusals.{number_of, name_of, field_of};
 
 use itoa::Buffer;
 use std::marker::Model;
-use tt_value::{Refusal, Reply};
+use tt_value::{Position, Refusal, Reply};
 
-// The longest is that of a refusal with a field: `error `, its number, its name, the field's name and number.
-const TEXT_MAX: usize = 80;
+// The longest is that of three positions: `write `, ` force ` and ` hold `, each with two numbers of ten digits and a slash.
+const TEXT_MAX: usize = 96;
 
 /// The text of a reply, with its line feed.
 #[derive(Drop)]
@@ -24,7 +25,7 @@ impl Model for ReplyText {
 
     ghost view = { λ t. take t.length t.bytes };
 
-    ghost invariant = { λ t. t.length ≤ 80 };
+    ghost invariant = { λ t. t.length ≤ 96 };
 }
 
 impl ReplyText {
@@ -38,7 +39,7 @@ impl ReplyText {
     }
 
     fn push(&mut self, piece: &[u8])
-        requires { length self.old + length piece.now ≤ 80 }
+        requires { length self.old + length piece.now ≤ 96 }
         ensures { self.new ≡ self.old ++ piece.now }
     {
         let end = self.length + piece.len();
@@ -55,7 +56,7 @@ impl ReplyText {
 
 // The text of a reply that some line gives.
 pub(crate) fn reply_text(reply: &Reply) -> ReplyText
-    requires { IsShown reply.now }
+    requires { IsGiven reply.now }
     ensures { result ≡ text_of reply.now }
 {
     let mut text = ReplyText::new();
@@ -65,11 +66,29 @@ pub(crate) fn reply_text(reply: &Reply) -> ReplyText
             text.push(b"changed ");
             text.push(Buffer::new().format(*rows).as_bytes());
         }
+        Reply::Positions { write, force, hold } => {
+            text.push(b"write ");
+            push_position(&mut text, *write);
+            text.push(b" force ");
+            push_position(&mut text, *force);
+            text.push(b" hold ");
+            push_position(&mut text, *hold);
+        }
         Reply::Refused(refusal) => push_refusal(&mut text, *refusal),
         _ => {}
     }
     text.push(b"\n");
     text
+}
+
+fn push_position(text: &mut ReplyText, at: Position)
+    requires { length text.old ≤ 70 }
+    ensures words { text.new ≡ text.old ++ place_words at }
+    ensures short { length text.new ≤ length text.old + 21 }
+{
+    text.push(Buffer::new().format(at.file).as_bytes());
+    text.push(b"/");
+    text.push(Buffer::new().format(at.offset).as_bytes());
 }
 
 fn push_refusal(text: &mut ReplyText, refusal: Refusal)

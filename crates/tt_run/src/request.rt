@@ -6,17 +6,9 @@ ghost use Rattle.tt_parse.specs.Parsing.{is_skipped};
 ghost use Rattle.tt_run.specs.Requests.{IsRequest, row_request, command_request, request_of};
 
 use std::alloc::Global;
+use tt_engine::Request;
 use tt_parse::{Command, LineKind, parse_line};
 use tt_value::{Refusal, Value};
-
-/// What a line asks for.
-#[derive(Clone, Copy, Debug, PartialEq, Eq)]
-pub(crate) enum Request {
-    Insert { key: i64, value: i64 },
-    Commit,
-    /// Nothing: it is refused as it stands.
-    Refused(Refusal),
-}
 
 // What a line of at most 4,096 bytes asks for; `None` where it is skipped.
 pub(crate) fn read_request(alloc: Global, line: &[u8]) -> Option<Request>
@@ -50,6 +42,9 @@ fn command_request(command: &Command) -> Request
 {
     match command {
         Command::Commit => Request::Commit,
+        Command::Flush => Request::Flush,
+        Command::DurableCommit => Request::DurableCommit,
+        Command::Bookmark => Request::Bookmark,
         Command::Insert { table, values } => {
             if table.as_bytes() == b"kv".as_slice() {
                 row_request(values.as_slice())

@@ -3,29 +3,23 @@ ghost use Rattle.std.specs.Prelude.{◌≡◌};
 ghost use Rattle.tt_run.specs.Statuses.{exit_of};
 
 use std::fmt;
-use tt_value::Stop;
-
-/// What is wrong with the files of a database.
-#[derive(Clone, Copy, Debug, PartialEq, Eq)]
-pub enum Damage {
-    /// The log file isn't there, or begins with no header of its own.
-    LogGap { file: u32 },
-    /// The batch at this gate of the log file isn't whole, or has rows that don't fit those before.
-    BadBatch { file: u32, at: u64 },
-}
+use tt_engine::Damage;
+use tt_value::{Stop, Text};
 
 /// How a run ended.
-#[derive(Clone, Copy, Debug, PartialEq, Eq)]
+#[derive(Debug, PartialEq, Eq, Drop)]
 pub enum Status {
     /// The whole script was done.
     Done,
     /// The script couldn't be read on.
     ScriptFault,
+    /// The attributes couldn't be read.
+    AttributesFault,
     /// A reply couldn't be written.
     SinkFault,
     /// A call on a volume failed.
     VolumeFault(Stop),
-    /// No memory was found to open the database.
+    /// No memory was found for the attributes, or to open the database.
     NoMemory,
     /// The words have none of the program's forms.
     Usage,
@@ -35,34 +29,31 @@ pub enum Status {
     Exists,
     /// There is no database.
     NoDatabase,
+    /// The attribute of this name isn't right; the name is empty where the attributes are no TOML of at most 65,536 bytes.
+    BadAttribute(Text),
+    /// No place is left in the log.
+    LogOut,
     /// The script has more than 1,073,741,824 bytes.
     ScriptTooLong,
 }
 
 impl Status {
     /// The number with which a program ends that has this status.
-    pub fn exit(self) -> u8
-        ensures { result ≡ exit_of self }
+    pub fn exit(&self) -> u8
+        ensures { result ≡ exit_of self.now }
     {
         match self {
             Status::Done => 0,
-            Status::ScriptFault => 1,
+            Status::ScriptFault | Status::AttributesFault => 1,
             Status::SinkFault => 2,
             Status::VolumeFault(_) => 3,
             Status::NoMemory => 4,
             Status::Usage => 5,
             Status::Damaged(_) => 6,
             Status::Exists | Status::NoDatabase => 7,
+            Status::BadAttribute(_) => 8,
+            Status::LogOut => 9,
             Status::ScriptTooLong => 11,
-        }
-    }
-}
-
-impl fmt::Display for Damage {
-    fn fmt<W: fmt::Write>(&self, f: &mut fmt::Formatter<W>) -> fmt::Result {
-        match self {
-            Damage::LogGap { file } => write!(f, "LogGap {file}"),
-            Damage::BadBatch { file, at } => write!(f, "BadBatch {file} {at}"),
         }
     }
 }
@@ -72,13 +63,19 @@ impl fmt::Display for Status {
         match self {
             Status::Done => write!(f, "Done"),
             Status::ScriptFault => write!(f, "ScriptFault"),
+            Status::AttributesFault => write!(f, "AttributesFault"),
             Status::SinkFault => write!(f, "SinkFault"),
             Status::VolumeFault(stop) => write!(f, "VolumeFault {stop:?}"),
             Status::NoMemory => write!(f, "NoMemory"),
             Status::Usage => write!(f, "Usage"),
-            Status::Damaged(damage) => write!(f, "Damaged {damage}"),
+            Status::Damaged(Damage::LogGap { file }) => write!(f, "Damaged LogGap {file}"),
+            Status::Damaged(Damage::BadBatch { file, at }) => {
+                write!(f, "Damaged BadBatch {file} {at}")
+            }
             Status::Exists => write!(f, "Exists"),
             Status::NoDatabase => write!(f, "NoDatabase"),
+            Status::BadAttribute(name) => write!(f, "BadAttribute {}", name.as_str()),
+            Status::LogOut => write!(f, "LogOut"),
             Status::ScriptTooLong => write!(f, "ScriptTooLong"),
         }
     }

@@ -52,7 +52,7 @@ fn commits_stay_in_a_folder(rt: HostRuntime) -> Result<(), Fail> {
     let (status, text) = written(&rt, rt.alloc(), &mut logs, "run", insert)?;
     assert_eq!(rt; status, Status::Done);
     assert_eq!(rt; text.as_slice(), b"changed 1\nok\n".as_slice());
-    assert_eq!(rt; fs::metadata(&rt, "made/logs/tt.log0")?.len(), 42);
+    assert_eq!(rt; fs::metadata(&rt, "made/logs/tt.log0")?.len(), 76);
     let mut logs = DirVolume::new(rt, rt.alloc(), "made/logs")?;
     let (status, text) = written(&rt, rt.alloc(), &mut logs, "run", insert)?;
     assert_eq!(rt; status, Status::Done);

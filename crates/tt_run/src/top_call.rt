@@ -1,30 +1,50 @@
 // The top call.
-ghost use Rattle.std.specs.Prelude.{◌^◌, length, ◌≡◌, ◌≢◌, ◌<◌, ◌≤◌, ◌⊎◌, ◌↔◌, ◌++◌, ◌∷◌, [], ℕ, List, Option, Some, None, Ok, Err, OnOk, OnErr, take, IfSome, IfNone, map, string_bytes};
+ghost use Rattle.std.specs.Prelude.{◌^◌, length, ◌≡◌, ◌≢◌, ◌<◌, ◌≤◌, ◌⊎◌, ◌↔◌, ℕ, List, Option, Some, None, Result, Ok, Err, IsSome, OnOk, OnErr, take, IfOk, IfSome, IfNone, map, string_bytes};
 ghost use Rattle.std.specs.Io.KnownBytes.{Appends};
 ghost use Rattle.tt_disk.specs.Causes.{HasCause, Rose};
 ghost use Rattle.tt_disk.specs.Volume.{Keeps};
 ghost use Rattle.tt_flow.specs.Reading.{HasGiven, bytes_to_come};
-ghost use Rattle.tt_run.specs.Opening.{opened};
-ghost use Rattle.tt_run.specs.Replies.{IsShown, text_of};
-ghost use Rattle.tt_run.specs.Rows.{Row};
-ghost use Rattle.tt_run.specs.Runs.{HasRun, EndsRows, IsRunning, IsRunEnd, IsStep, IsNext, IsScriptEnd, IsOpenFault, status_of, IsRun, IsBeforeLines, IsFaultOf, IsCreateText, IsCreated, IsOpened};
-ghost use Rattle.tt_run.specs.Session.{Knows, IsAtRest, LeavesRows, LeavesNoLog, LeavesNoRow};
+ghost use Rattle.tt_set.specs.Attributes.{AreInRange, Says};
+ghost use Rattle.tt_set.specs.declared.settings.Settings.{Settings};
+ghost use Rattle.tt_log.specs.Logs.{IsOpen, LeavesForced};
+ghost use Rattle.tt_model.specs.Found.{Found};
+ghost use Rattle.tt_model.specs.State.{State};
+ghost use Rattle.tt_engine.specs.Engines.{Stands};
+ghost use Rattle.tt_engine.specs.Prefixes.{IsSinceOpening, LeavesOpening, LogsAreSettled};
+ghost use Rattle.tt_engine.specs.Requests.{IsGiven};
+ghost use Rattle.tt_engine.specs.Starts.{begun_over, database};
+ghost use Rattle.tt_run.specs.Openings.{EndedEarly, IsBeforeLines, IsCreateEnd, IsCreateText, IsCreated, IsFaultOf, IsOpened, IsScriptRunEnd, LeavesNoEntry, LeavesNoLog, mark_place};
+ghost use Rattle.tt_run.specs.Replies.{text_of};
+ghost use Rattle.tt_run.specs.Runs.{HasEnded, IsEnd, IsLine, IsNext, IsRun, IsRunEnd, IsRunning, IsStep};
+ghost use Rattle.tt_run.specs.Settings.{IsBadSo, IsRefusedFor};
 ghost use Rattle.tt_run.specs.Words.{form_of};
 
-use crate::load::OpenRefusal;
+use crate::attributes::settings_of;
 use crate::reply::reply_text;
-use crate::request::{Request, read_request};
-use crate::session::{HEADER, Session};
+use crate::request::read_request;
 use crate::status::Status;
 use crate::words::{Action, read_words};
 use std::alloc::Global;
 use std::thread::Threads;
 use tt_disk::{Failed, Name, Volume};
+use tt_engine::{Engine, OpenRefusal, Request};
 use tt_flow::{LineBuf, LineRead, LineReader, Sink, Source};
-use tt_gate::GateFile;
+use tt_log::Log;
+use tt_set::Settings;
 use tt_value::{Refusal, Reply, Stop};
 
+// What comes next in a script.
+enum NextLine {
+    /// A line that is answered, by what it asks for.
+    Asks(Request),
+    /// A blank line, or a comment.
+    Skipped,
+    End,
+    ScriptTooLong,
+}
+
 /// Does what the words ask for: `create DIR` makes a database, `run DIR` does the lines of the script and writes the reply to each.
+/// The attributes are read first.
 pub fn run<
     R: Threads,
     S: Source,
@@ -47,71 +67,108 @@ pub fn run<
     // The words have no form exactly where the status says so.
     ensures usage { (result ≡ Status.Usage) ↔ (form_of (map string_bytes words.now) ≡ None) }
 
+    // The attributes aren't right exactly where the status says so, and it has the first such name, unless they couldn't be read.
+    ensures attributes { (text : List ℕ) → A.left attributes.old ≡ Some text → IsBadSo text result }
+    ensures bad_attribute { (text name : List ℕ) → form_of (map string_bytes words.now) ≢ None → A.left attributes.old ≡ Some text
+        → Says text (Err name) → IsRefusedFor name result }
+
+    // Nothing was read of the script, written or changed where a status comes before the lines.
+    ensures unbegun { IsBeforeLines result → (script.new ≡ script.old) × (sink.new ≡ sink.old)
+        × (L.told → Keeps (L.now logs.old) (L.now logs.new) (L.may logs.old) (L.may logs.new)) }
+
     // `create DIR`, over a volume that tells its files.
-    ensures created { L.told → form_of (map string_bytes words.now) ≡ Some Action.Create → IsCreated (L.now logs.old (Name.Log 0)) result (L.now logs.new) (L.may logs.new) }
+    ensures created { (text : List ℕ) (settings : Settings) → L.told → form_of (map string_bytes words.now) ≡ Some Action.Create
+        → A.left attributes.old ≡ Some text → Says text (Ok settings)
+        → IsCreated (L.now logs.old (Name.Log 0)) result (L.now logs.new) (L.may logs.new) }
 
-    // However it ends, no log file that a crash leaves has a row, if none could be left before.
-    ensures no_row { L.told → form_of (map string_bytes words.now) ≡ Some Action.Create → LeavesNoLog (L.may logs.old) → LeavesNoRow (L.may logs.new) }
-    ensures create_text { form_of (map string_bytes words.now) ≡ Some Action.Create → IsCreateText (K.given sink.old) (K.given sink.new) result (sink.new ≡ sink.old) }
+    // A database that is there stays as it is, whatever failed.
+    ensures there { (file : List ℕ) → L.told → form_of (map string_bytes words.now) ≡ Some Action.Create
+        → L.now logs.old (Name.Log 0) ≡ Some file → Keeps (L.now logs.old) (L.now logs.new) (L.may logs.old) (L.may logs.new) }
 
-    ensures refused_create { L.told → result ≡ Status.Exists → Keeps (L.now logs.old) (L.now logs.new) (L.may logs.old) (L.may logs.new) }
+    // However it ends, no log that a crash leaves has an entry, if none could be left before.
+    ensures no_entry { L.told → form_of (map string_bytes words.now) ≡ Some Action.Create → LeavesNoLog (L.may logs.old)
+        → LeavesNoEntry (L.may logs.new) }
+    ensures create_text { form_of (map string_bytes words.now) ≡ Some Action.Create
+        → IsCreateText (K.given sink.old) (K.given sink.new) result (sink.new ≡ sink.old) }
 
-    // `run DIR`, over a volume that tells its files: which statuses opening allows.
-    ensures opened { L.told → form_of (map string_bytes words.now) ≡ Some Action.Run → IsOpened (opened (L.now logs.old (Name.Log 0))) result }
+    // `run DIR`, over a volume that tells its files: how the database was opened.
+    ensures opened { (text : List ℕ) (settings : Settings) → L.told → form_of (map string_bytes words.now) ≡ Some Action.Run
+        → A.left attributes.old ≡ Some text → Says text (Ok settings) → IsOpened settings (database (L.now logs.old)) result }
 
-    // `run DIR`, over a script and a volume that tell what they have: the lines answered, what was written, and what a crash leaves,
-    // all of one list of lines with their replies.
-    ensures ran { (bytes : List ℕ) (found : List Row) → L.told → form_of (map string_bytes words.now) ≡ Some Action.Run → S.left script.old ≡ Some bytes → opened (L.now logs.old (Name.Log 0)) ≡ Ok found
-        → IsOpenFault result ((script.new ≡ script.old) × (sink.new ≡ sink.old) × (LeavesRows found (L.may logs.old) → LeavesRows found (L.may logs.new)))
-        ⊎ IsRun bytes (S.left script.new) found (K.given sink.old) (K.given sink.new) result (L.now logs.new) (L.may logs.old) (L.may logs.new) }
+    // A database that can't be opened stays as it is, whatever failed.
+    ensures refused { (refusal : OpenRefusal) → L.told → form_of (map string_bytes words.now) ≡ Some Action.Run
+        → database (L.now logs.old) ≡ Err refusal → (script.new ≡ script.old) × (sink.new ≡ sink.old)
+        × Keeps (L.now logs.old) (L.now logs.new) (L.may logs.old) (L.may logs.new) }
 
-    // `run DIR` over a log file that can't be opened.
-    ensures refused { (refusal : OpenRefusal) → L.told → form_of (map string_bytes words.now) ≡ Some Action.Run → opened (L.now logs.old (Name.Log 0)) ≡ Err refusal
-        → (result ≡ status_of refusal) ⊎ IsOpenFault result ((script.new ≡ script.old) × (sink.new ≡ sink.old)) }
+    // The lines that were answered, what was written, what the log files have and what a crash leaves, all of one run of the model
+    // from the state that opening found.
+    ensures ran { (bytes text : List ℕ) (settings : Settings) (found : Found) → L.told
+        → form_of (map string_bytes words.now) ≡ Some Action.Run → S.left script.old ≡ Some bytes
+        → A.left attributes.old ≡ Some text → Says text (Ok settings) → database (L.now logs.old) ≡ Ok found
+        → EndedEarly result ((script.new ≡ script.old) × (sink.new ≡ sink.old)
+        × (LogsAreSettled (L.now logs.old) (L.may logs.old)
+        → LeavesOpening (length found.entries) (begun_over settings (L.now logs.old) found) (L.may logs.new)))
+        ⊎ IsRun bytes (S.left script.new) (begun_over settings (L.now logs.old) found) (K.given sink.old) (K.given sink.new) result
+        (LogsAreSettled (L.now logs.old) (L.may logs.old)) (L.now logs.old) (L.now logs.new) (L.may logs.old) (L.may logs.new) }
 
     // Where no count rose, a script of at most 2^30 bytes is done to its end, and a database is made where there is none. Want of
-    // memory alone may keep `run` from opening.
-    ensures complete_run { (bytes : List ℕ) (found : List Row) → L.told → form_of (map string_bytes words.now) ≡ Some Action.Run → S.left script.old ≡ Some bytes → opened (L.now logs.old (Name.Log 0)) ≡ Ok found
-        → length bytes ≤ 2 ^ 30 → ¬ (Rose (S.faults script.old) (S.faults script.new)) → ¬ (Rose (K.faults sink.old) (K.faults sink.new)) → ¬ (Rose (L.faults logs.old) (L.faults logs.new))
+    // memory alone may keep both from beginning.
+    ensures complete_run { (bytes text : List ℕ) (settings : Settings) (found : Found) → L.told
+        → form_of (map string_bytes words.now) ≡ Some Action.Run → S.left script.old ≡ Some bytes
+        → A.left attributes.old ≡ Some text → Says text (Ok settings) → database (L.now logs.old) ≡ Ok found
+        → IsSome (mark_place settings found) → length bytes ≤ 2 ^ 30
+        → ¬ (Rose (S.faults script.old) (S.faults script.new)) → ¬ (Rose (A.faults attributes.old) (A.faults attributes.new))
+        → ¬ (Rose (K.faults sink.old) (K.faults sink.new)) → ¬ (Rose (L.faults logs.old) (L.faults logs.new))
         → (result ≡ Status.Done) ⊎ (result ≡ Status.NoMemory) }
-    ensures complete_create { L.told → form_of (map string_bytes words.now) ≡ Some Action.Create → L.now logs.old (Name.Log 0) ≡ None
-        → ¬ (Rose (K.faults sink.old) (K.faults sink.new)) → ¬ (Rose (L.faults logs.old) (L.faults logs.new)) → result ≡ Status.Done }
+    ensures complete_create { (text : List ℕ) (settings : Settings) → L.told
+        → form_of (map string_bytes words.now) ≡ Some Action.Create → A.left attributes.old ≡ Some text
+        → Says text (Ok settings) → L.now logs.old (Name.Log 0) ≡ None
+        → ¬ (Rose (A.faults attributes.old) (A.faults attributes.new)) → ¬ (Rose (K.faults sink.old) (K.faults sink.new))
+        → ¬ (Rose (L.faults logs.old) (L.faults logs.new)) → (result ≡ Status.Done) ⊎ (result ≡ Status.NoMemory) }
 
-    // Nothing was read or written where a status comes before the lines, and what isn't used yet had no call.
-    ensures unbegun { IsBeforeLines result → (script.new ≡ script.old) × (sink.new ≡ sink.old) }
-    ensures unused { (attributes.new ≡ attributes.old) × (images.new ≡ images.old) × (backups.new ≡ backups.old) }
+    // What isn't used yet had no call.
+    ensures unused { (images.new ≡ images.old) × (backups.new ≡ backups.old) }
 
     // A fault status comes only where the count of that device rose.
-    ensures cause { IsFaultOf result (Rose (S.faults script.old) (S.faults script.new)) (Rose (K.faults sink.old) (K.faults sink.new)) (Rose (L.faults logs.old) (L.faults logs.new))
-        (Rose (C.faults images.old) (C.faults images.new)) (Rose (B.faults backups.old) (B.faults backups.new)) }
+    ensures cause { IsFaultOf result (Rose (S.faults script.old) (S.faults script.new))
+        (Rose (A.faults attributes.old) (A.faults attributes.new)) (Rose (K.faults sink.old) (K.faults sink.new))
+        (Rose (L.faults logs.old) (L.faults logs.new)) (Rose (C.faults images.old) (C.faults images.new))
+        (Rose (B.faults backups.old) (B.faults backups.new)) }
 {
     let _ = rt;
-    let _ = attributes;
     let _ = images;
     let _ = backups;
-    match read_words(words) {
-        None => Status::Usage,
-        Some(Action::Create) => create(sink, logs),
-        Some(Action::Run) => run_script(alloc, script, sink, logs),
+    let action = match read_words(words) {
+        None => return Status::Usage,
+        Some(action) => action,
+    };
+    let settings = match settings_of(alloc, attributes) {
+        Ok(settings) => settings,
+        Err(status) => return status,
+    };
+    match action {
+        Action::Create => create(sink, logs),
+        Action::Run => run_script(alloc, &settings, script, sink, logs),
     }
 }
 
 fn create<K: Sink, L: Volume>(sink: &mut K, logs: &mut L) -> Status
     ensures created { L.told → IsCreated (L.now logs.old (Name.Log 0)) result (L.now logs.new) (L.may logs.new) }
-    ensures no_row { L.told → LeavesNoLog (L.may logs.old) → LeavesNoRow (L.may logs.new) }
-    ensures refused { L.told → result ≡ Status.Exists → Keeps (L.now logs.old) (L.now logs.new) (L.may logs.old) (L.may logs.new) }
+    ensures there { (file : List ℕ) → L.told → L.now logs.old (Name.Log 0) ≡ Some file
+        → Keeps (L.now logs.old) (L.now logs.new) (L.may logs.old) (L.may logs.new) }
+    ensures no_entry { L.told → LeavesNoLog (L.may logs.old) → LeavesNoEntry (L.may logs.new) }
     ensures text { IsCreateText (K.given sink.old) (K.given sink.new) result (sink.new ≡ sink.old) }
-    ensures statuses { result ≢ Status.Usage }
-    ensures unbegun { IsBeforeLines result → sink.new ≡ sink.old }
-    ensures cause { IsFaultOf result ⊥ (Rose (K.faults sink.old) (K.faults sink.new)) (Rose (L.faults logs.old) (L.faults logs.new)) ⊥ ⊥ }
+    ensures unbegun { IsBeforeLines result → (sink.new ≡ sink.old)
+        × (L.told → Keeps (L.now logs.old) (L.now logs.new) (L.may logs.old) (L.may logs.new)) }
+    ensures statuses { IsCreateEnd result (Rose (K.faults sink.old) (K.faults sink.new)) (Rose (L.faults logs.old) (L.faults logs.new)) }
 {
     match logs.size(Name::Log(0)) {
         Ok(None) => {}
         Ok(Some(_)) => return Status::Exists,
         Err(_) => return Status::VolumeFault(Stop::Logs),
     }
-    match GateFile::make(logs, Name::Log(0), &HEADER) {
-        Ok(_) => {}
+    match Log::make(logs) {
+        Ok(()) => {}
         Err(_) => return Status::VolumeFault(Stop::Logs),
     }
     match sink.put(b"created\n") {
@@ -122,50 +179,59 @@ fn create<K: Sink, L: Volume>(sink: &mut K, logs: &mut L) -> Status
 
 fn run_script<S: Source, K: Sink, L: Volume>(
     alloc: Global,
+    settings: &Settings,
     script: &mut S,
     sink: &mut K,
     logs: &mut L,
 ) -> Status
-    ensures ran { (bytes : List ℕ) (found : List Row) → L.told → S.left script.old ≡ Some bytes → opened (L.now logs.old (Name.Log 0)) ≡ Ok found
-        → IsOpenFault result ((script.new ≡ script.old) × (sink.new ≡ sink.old) × (LeavesRows found (L.may logs.old) → LeavesRows found (L.may logs.new)))
-        ⊎ IsRun bytes (S.left script.new) found (K.given sink.old) (K.given sink.new) result (L.now logs.new) (L.may logs.old) (L.may logs.new) }
-    ensures refused { (refusal : OpenRefusal) → L.told → opened (L.now logs.old (Name.Log 0)) ≡ Err refusal
-        → (result ≡ status_of refusal) ⊎ IsOpenFault result ((script.new ≡ script.old) × (sink.new ≡ sink.old)) }
-    ensures opened { L.told → IsOpened (opened (L.now logs.old (Name.Log 0))) result }
-    ensures statuses { (result ≢ Status.Usage) × (result ≢ Status.Exists) }
-    ensures unbegun { IsBeforeLines result → (script.new ≡ script.old) × (sink.new ≡ sink.old) }
-    ensures cause { IsFaultOf result (Rose (S.faults script.old) (S.faults script.new)) (Rose (K.faults sink.old) (K.faults sink.new)) (Rose (L.faults logs.old) (L.faults logs.new)) ⊥ ⊥ }
+    requires settings { AreInRange settings.now }
+    ensures ran { (bytes : List ℕ) (found : Found) → L.told → S.left script.old ≡ Some bytes → database (L.now logs.old) ≡ Ok found
+        → EndedEarly result ((script.new ≡ script.old) × (sink.new ≡ sink.old)
+        × (LogsAreSettled (L.now logs.old) (L.may logs.old)
+        → LeavesOpening (length found.entries) (begun_over settings.now (L.now logs.old) found) (L.may logs.new)))
+        ⊎ IsRun bytes (S.left script.new) (begun_over settings.now (L.now logs.old) found) (K.given sink.old) (K.given sink.new) result
+        (LogsAreSettled (L.now logs.old) (L.may logs.old)) (L.now logs.old) (L.now logs.new) (L.may logs.old) (L.may logs.new) }
+    ensures opened { L.told → IsOpened settings.now (database (L.now logs.old)) result }
+    ensures refused { (refusal : OpenRefusal) → L.told → database (L.now logs.old) ≡ Err refusal → (script.new ≡ script.old)
+        × (sink.new ≡ sink.old) × Keeps (L.now logs.old) (L.now logs.new) (L.may logs.old) (L.may logs.new) }
+    ensures unbegun { IsBeforeLines result → (script.new ≡ script.old) × (sink.new ≡ sink.old)
+        × (L.told → Keeps (L.now logs.old) (L.now logs.new) (L.may logs.old) (L.may logs.new)) }
+    ensures statuses { IsScriptRunEnd result (Rose (S.faults script.old) (S.faults script.new))
+        (Rose (K.faults sink.old) (K.faults sink.new)) (Rose (L.faults logs.old) (L.faults logs.new)) }
 {
-    match Session::open(alloc, logs) {
-        Ok(session) => do_lines(alloc, session, script, sink, logs),
+    match Engine::start(alloc, settings, logs) {
+        Ok(engine) => do_lines(alloc, engine, script, sink, logs),
         Err(OpenRefusal::NoDatabase) => Status::NoDatabase,
         Err(OpenRefusal::Damaged(damage)) => Status::Damaged(damage),
+        Err(OpenRefusal::LogOut) => Status::LogOut,
         Err(OpenRefusal::Failed) => Status::VolumeFault(Stop::Logs),
         Err(OpenRefusal::NoMemory) => Status::NoMemory,
     }
 }
 
-// Does the lines of the script, up to the first that fails.
+// Does the lines of the script, up to the first that fails, and forces the log at the end.
 fn do_lines<S: Source, K: Sink, L: Volume>(
     alloc: Global,
-    session: Session,
+    engine: Engine,
     script: &mut S,
     sink: &mut K,
     logs: &mut L,
 ) -> Status
-    requires rest { L.told → IsAtRest session (L.now logs.old) (L.may logs.old) }
-    ensures ran { (bytes : List ℕ) (found : List Row) → S.left script.old ≡ Some bytes → Knows found [] session → (answered : List (Request × Reply))
-        × HasRun bytes (S.left script.new) found (K.given sink.old) (K.given sink.new) answered result
-        × EndsRows L.told found found answered result (L.now logs.old) (L.now logs.new) (L.may logs.old) (L.may logs.new) }
-    ensures cause { IsRunEnd result (Rose (S.faults script.old) (S.faults script.new)) (Rose (K.faults sink.old) (K.faults sink.new)) (Rose (L.faults logs.old) (L.faults logs.new)) }
+    requires open { L.told → IsOpen engine.log (L.now logs.old) (L.may logs.old) }
+    ensures ran { L.told → (bytes : List ℕ) (start : State) → S.left script.old ≡ Some bytes → Stands engine (L.now logs.old) start
+        → IsSinceOpening start
+        → IsRun bytes (S.left script.new) start (K.given sink.old) (K.given sink.new) result
+        (LeavesForced engine.log (L.now logs.old) (L.may logs.old)) (L.now logs.old) (L.now logs.new) (L.may logs.old) (L.may logs.new) }
+    ensures cause { IsRunEnd result (Rose (S.faults script.old) (S.faults script.new)) (Rose (K.faults sink.old) (K.faults sink.new))
+        (Rose (L.faults logs.old) (L.faults logs.new)) }
 {
-    let mut session = session;
+    let mut engine = engine;
     let mut reader = LineReader::new();
     let mut line = LineBuf::new();
     'lines: loop {
         match do_line(
             alloc,
-            &mut session,
+            &mut engine,
             &mut reader,
             &mut line,
             script,
@@ -181,40 +247,64 @@ fn do_lines<S: Source, K: Sink, L: Volume>(
 // Does the next line; answers a status where the run ends with it.
 fn do_line<S: Source, K: Sink, L: Volume>(
     alloc: Global,
-    session: &mut Session,
+    engine: &mut Engine,
     reader: &mut LineReader,
     line: &mut LineBuf,
     script: &mut S,
     sink: &mut K,
     logs: &mut L,
 ) -> Option<Status>
-    requires rest { L.told → IsAtRest session.old (L.now logs.old) (L.may logs.old) }
-    ensures rest { L.told → IfNone result (IsAtRest session.new (L.now logs.new) (L.may logs.new)) }
-    ensures step { (bytes left : List ℕ) (found : List Row) (before : Option (List ℕ)) (answered : List (Request × Reply)) → S.left script.old ≡ Some left
-        → IsRunning bytes left found before (K.given sink.old) answered reader.old session.old
-        → IsStep bytes (S.left script.new) found before (K.given sink.new) answered reader.new session.new L.told (L.now logs.old) (L.now logs.new) (L.may logs.old) (L.may logs.new) result }
+    requires open { L.told → IsOpen engine.old.log (L.now logs.old) (L.may logs.old) }
+    ensures open { L.told → IfNone result (IsOpen engine.new.log (L.now logs.new) (L.may logs.new)) }
+    ensures step { L.told → (bytes left : List ℕ) (start s : State) (before : Option (List ℕ)) → S.left script.old ≡ Some left
+        → IsRunning bytes left start before (K.given sink.old) reader.old s → Stands engine.old (L.now logs.old) s → IsSinceOpening s
+        → IsStep bytes (S.left script.new) start s before (K.given sink.new) reader.new engine.old engine.new (L.now logs.old)
+        (L.now logs.new) (L.may logs.old) (L.may logs.new) result }
     ensures fewer { IfNone result (bytes_to_come reader.new < bytes_to_come reader.old) }
-    ensures cause { IfSome result (λ status. IsRunEnd status (Rose (S.faults script.old) (S.faults script.new)) (Rose (K.faults sink.old) (K.faults sink.new)) (Rose (L.faults logs.old) (L.faults logs.new))) }
-    ensures later { (S.faults script.old ≤ S.faults script.new) × (K.faults sink.old ≤ K.faults sink.new) × (L.faults logs.old ≤ L.faults logs.new) }
+    ensures cause { IfSome result (λ status. IsRunEnd status (Rose (S.faults script.old) (S.faults script.new))
+        (Rose (K.faults sink.old) (K.faults sink.new)) (Rose (L.faults logs.old) (L.faults logs.new))) }
+    ensures later { (S.faults script.old ≤ S.faults script.new) × (K.faults sink.old ≤ K.faults sink.new)
+        × (L.faults logs.old ≤ L.faults logs.new) }
 {
-    let request = match next_request(alloc, reader, line, script) {
-        Ok(Some(request)) => request,
-        Ok(None) => return None,
-        Err(status) => return Some(status),
+    engine.opens_after_crash(logs);
+    let request = match next_line(alloc, reader, line, script) {
+        Ok(NextLine::Asks(request)) => request,
+        Ok(NextLine::Skipped) => return None,
+        Ok(NextLine::End) => return Some(end_script(engine, logs)),
+        Ok(NextLine::ScriptTooLong) => return Some(Status::ScriptTooLong),
+        Err(_) => return Some(Status::ScriptFault),
     };
-    let reply = match session.answer(logs, request) {
+    let reply = match engine.step(alloc, logs, request) {
         Ok(reply) => reply,
         Err(_) => return Some(Status::VolumeFault(Stop::Logs)),
     };
+    engine.opens_after_crash(logs);
     match put_reply(sink, reply) {
         Ok(()) => None,
         Err(_) => Some(Status::SinkFault),
     }
 }
 
+// Ends a run at the end of its script: the log is forced.
+fn end_script<L: Volume>(engine: &mut Engine, logs: &mut L) -> Status
+    requires open { L.told → IsOpen engine.old.log (L.now logs.old) (L.may logs.old) }
+    ensures ends { L.told → (s : State) → Stands engine.old (L.now logs.old) s → IsSinceOpening s
+        → HasEnded result s engine.old (L.now logs.old) (L.now logs.new) (L.may logs.old) (L.may logs.new) }
+    ensures cause { IsEnd result (Rose (L.faults logs.old) (L.faults logs.new)) }
+    ensures later { L.faults logs.old ≤ L.faults logs.new }
+{
+    match engine.end(logs) {
+        Ok(()) => {
+            engine.opens_after_crash(logs);
+            Status::Done
+        }
+        Err(_) => Status::VolumeFault(Stop::Logs),
+    }
+}
+
 // Writes the text of a reply.
 fn put_reply<K: Sink>(sink: &mut K, reply: Reply) -> Result<(), Failed>
-    requires { IsShown reply }
+    requires { IsGiven reply }
     ensures whole { OnOk result (Appends (K.given sink.old) (K.given sink.new) (text_of reply)) }
     ensures prefix { OnErr result ((n : ℕ) × Appends (K.given sink.old) (K.given sink.new) (take n (text_of reply))) }
     ensures cause { HasCause (K.faults sink.old) (K.faults sink.new) result }
@@ -223,24 +313,26 @@ fn put_reply<K: Sink>(sink: &mut K, reply: Reply) -> Result<(), Failed>
     sink.put(text.as_slice())
 }
 
-// What the next line asks for, if it is answered; a status where there is no line.
-fn next_request<S: Source>(
+// Reads the next line.
+fn next_line<S: Source>(
     alloc: Global,
     reader: &mut LineReader,
     line: &mut LineBuf,
     script: &mut S,
-) -> Result<Option<Request>, Status>
-    ensures read { (bytes left : List ℕ) (given : List (Option (List ℕ))) → S.left script.old ≡ Some left → HasGiven bytes given reader.old left
-        → IsNext bytes given result reader.new (S.left script.new) }
-    ensures fewer { OnOk result (bytes_to_come reader.new < bytes_to_come reader.old) }
-    ensures cause { IsScriptEnd result (Rose (S.faults script.old) (S.faults script.new)) }
-    ensures later { S.faults script.old ≤ S.faults script.new }
+) -> Result<NextLine, Failed>
+    ensures read { (bytes left : List ℕ) (given : List (Option (List ℕ))) → S.left script.old ≡ Some left
+        → HasGiven bytes given reader.old left → IsNext bytes given result reader.new (S.left script.new) }
+    ensures fewer { IfOk result (λ next. IsLine next → bytes_to_come reader.new < bytes_to_come reader.old) }
+    ensures cause { HasCause (S.faults script.old) (S.faults script.new) result }
 {
     match reader.next(script, line) {
-        Ok(LineRead::Line) => Ok(read_request(alloc, line.line())),
-        Ok(LineRead::TooLong) => Ok(Some(Request::Refused(Refusal::LineTooLong))),
-        Ok(LineRead::End) => Err(Status::Done),
-        Ok(LineRead::ScriptTooLong) => Err(Status::ScriptTooLong),
-        Err(_) => Err(Status::ScriptFault),
+        Ok(LineRead::Line) => Ok(match read_request(alloc, line.line()) {
+            Some(request) => NextLine::Asks(request),
+            None => NextLine::Skipped,
+        }),
+        Ok(LineRead::TooLong) => Ok(NextLine::Asks(Request::Refused(Refusal::LineTooLong))),
+        Ok(LineRead::End) => Ok(NextLine::End),
+        Ok(LineRead::ScriptTooLong) => Ok(NextLine::ScriptTooLong),
+        Err(failed) => Err(failed),
     }
 }

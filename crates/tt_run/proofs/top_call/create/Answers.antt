@@ -1,32 +1,41 @@
-use Rattle.std.proofs.Common.{refl, inl, inr}
+use Rattle.std.proofs.Common.{◌∙◌, sym}
 use Rattle.tt_disk.specs.declared.volume.Name.TheVariants.{Log}
-use Rattle.tt_run.proofs.OpenLemmas.{no_row_made}
-use Rattle.tt_run.proofs.RunLemmas.{created_done}
-use Rattle.tt_run.specs.declared.status.Status.TheVariants.{Done, SinkFault}
+use Rattle.tt_run.proofs.OpenLemmas.{made_done, new_made, no_entry_kept, no_entry_made, no_size, some_size}
 use Rattle.tt_run.proofs.top_call.create.Goals as goal
 
 pub returns-in-Ok-put-clause-created : goal.returns-in-Ok-put-clause-created
 returns-in-Ok-put-clause-created g c = λ told.
-    created_done (g.L.Volume.now c.args.logs.now) (g.L.Volume.now c.make.new.volume) (g.L.Volume.may c.make.new.volume) Done c.in-Ok-None.field-0 (c.in-Ok-None.ensures.size told) c.in-Ok-None.field-0-is (inl refl)
-    (c.in-Ok.ensures.done told) (c.in-Ok.ensures.settled told)
+    (made_done (g.L.Volume.now c.args.logs.now (Log 0)) (g.L.Volume.now c.make.new.volume) (g.L.Volume.may c.make.new.volume) (no_size (g.L.Volume.now c.args.logs.now (Log 0)) (sym c.in-Ok-None.field-0-is ∙ c.in-Ok-None.ensures.size told))
+    (new_made (g.L.Volume.now c.make.new.volume) (g.L.Volume.may c.make.new.volume) (c.in-Ok.ensures.made told) (c.in-Ok.ensures.settled told))).0
 
 pub returns-in-Err-put-clause-created : goal.returns-in-Err-put-clause-created
 returns-in-Err-put-clause-created g c = λ told.
-    created_done (g.L.Volume.now c.args.logs.now) (g.L.Volume.now c.make.new.volume) (g.L.Volume.may c.make.new.volume) SinkFault c.in-Ok-None.field-0 (c.in-Ok-None.ensures.size told) c.in-Ok-None.field-0-is (inr refl)
-    (c.in-Ok.ensures.done told) (c.in-Ok.ensures.settled told)
+    (made_done (g.L.Volume.now c.args.logs.now (Log 0)) (g.L.Volume.now c.make.new.volume) (g.L.Volume.may c.make.new.volume) (no_size (g.L.Volume.now c.args.logs.now (Log 0)) (sym c.in-Ok-None.field-0-is ∙ c.in-Ok-None.ensures.size told))
+    (new_made (g.L.Volume.now c.make.new.volume) (g.L.Volume.may c.make.new.volume) (c.in-Ok.ensures.made told) (c.in-Ok.ensures.settled told))).1
 
-pub returns-in-Err-clause-no_row : goal.returns-in-Err-clause-no_row
-returns-in-Err-clause-no_row g c = λ told none.
-    no_row_made (g.L.Volume.may c.args.logs.now) (g.L.Volume.may c.size.new.self) (λ short d left. short d ((c.size.ensures.keeps told).crash (Log 0) d left)) none
+pub returns-in-Err-clause-no_entry : goal.returns-in-Err-clause-no_entry
+returns-in-Err-clause-no_entry g c = λ told none. no_entry_kept (g.L.Volume.now c.args.logs.now) (g.L.Volume.now c.size.new.self) (g.L.Volume.may c.args.logs.now) (g.L.Volume.may c.size.new.self) (c.size.ensures.keeps told) none
 
-pub returns-in-Err-make-clause-no_row : goal.returns-in-Err-make-clause-no_row
-returns-in-Err-make-clause-no_row g c = λ told none.
-    no_row_made (g.L.Volume.may c.size.new.self) (g.L.Volume.may c.make.new.volume) (c.make.ensures.short told) (λ d left. none d ((c.size.ensures.keeps told).crash (Log 0) d left))
+pub returns-in-Ok-Some-clause-no_entry : goal.returns-in-Ok-Some-clause-no_entry
+returns-in-Ok-Some-clause-no_entry g c = λ told none. no_entry_kept (g.L.Volume.now c.args.logs.now) (g.L.Volume.now c.size.new.self) (g.L.Volume.may c.args.logs.now) (g.L.Volume.may c.size.new.self) (c.size.ensures.keeps told) none
 
-pub returns-in-Ok-put-clause-no_row : goal.returns-in-Ok-put-clause-no_row
-returns-in-Ok-put-clause-no_row g c = λ told none.
-    no_row_made (g.L.Volume.may c.size.new.self) (g.L.Volume.may c.make.new.volume) (c.make.ensures.short told) (λ d left. none d ((c.size.ensures.keeps told).crash (Log 0) d left))
+pub returns-in-Err-make-clause-no_entry : goal.returns-in-Err-make-clause-no_entry
+returns-in-Err-make-clause-no_entry g c = λ told none.
+    no_entry_made (g.L.Volume.now c.args.logs.now) (g.L.Volume.now c.size.new.self) (g.L.Volume.may c.args.logs.now) (g.L.Volume.may c.size.new.self) (g.L.Volume.may c.make.new.volume) (c.size.ensures.keeps told) (c.make.ensures.short told) none
 
-pub returns-in-Err-put-clause-no_row : goal.returns-in-Err-put-clause-no_row
-returns-in-Err-put-clause-no_row g c = λ told none.
-    no_row_made (g.L.Volume.may c.size.new.self) (g.L.Volume.may c.make.new.volume) (c.make.ensures.short told) (λ d left. none d ((c.size.ensures.keeps told).crash (Log 0) d left))
+pub returns-in-Ok-put-clause-no_entry : goal.returns-in-Ok-put-clause-no_entry
+returns-in-Ok-put-clause-no_entry g c = λ told none.
+    no_entry_made (g.L.Volume.now c.args.logs.now) (g.L.Volume.now c.size.new.self) (g.L.Volume.may c.args.logs.now) (g.L.Volume.may c.size.new.self) (g.L.Volume.may c.make.new.volume) (c.size.ensures.keeps told) (c.make.ensures.short told) none
+
+pub returns-in-Err-put-clause-no_entry : goal.returns-in-Err-put-clause-no_entry
+returns-in-Err-put-clause-no_entry g c = λ told none.
+    no_entry_made (g.L.Volume.now c.args.logs.now) (g.L.Volume.now c.size.new.self) (g.L.Volume.may c.args.logs.now) (g.L.Volume.may c.size.new.self) (g.L.Volume.may c.make.new.volume) (c.size.ensures.keeps told) (c.make.ensures.short told) none
+
+pub returns-in-Err-make-clause-there : goal.returns-in-Err-make-clause-there
+returns-in-Err-make-clause-there g c = λ file told is. absurd (some_size (g.L.Volume.now c.args.logs.now (Log 0)) file is (sym c.in-Ok-None.field-0-is ∙ c.in-Ok-None.ensures.size told))
+
+pub returns-in-Ok-put-clause-there : goal.returns-in-Ok-put-clause-there
+returns-in-Ok-put-clause-there g c = λ file told is. absurd (some_size (g.L.Volume.now c.args.logs.now (Log 0)) file is (sym c.in-Ok-None.field-0-is ∙ c.in-Ok-None.ensures.size told))
+
+pub returns-in-Err-put-clause-there : goal.returns-in-Err-put-clause-there
+returns-in-Err-put-clause-there g c = λ file told is. absurd (some_size (g.L.Volume.now c.args.logs.now (Log 0)) file is (sym c.in-Ok-None.field-0-is ∙ c.in-Ok-None.ensures.size told))

@@ -1,68 +1,92 @@
-use Rattle.std.proofs.Common.{◌++◌, ◌∷◌, [], List, ℕ, subst, take, Option, Some, None, Ok, Result}
+use Rattle.std.proofs.Common.{◌∙◌, Ok, Result, ap, subst, sym}
+use Rattle.tt_disk.specs.Volume.{Keeps}
+use Rattle.tt_disk.specs.declared.volume.Failed.{Failed}
+use Rattle.tt_engine.specs.OnwardLaws.{same_onward, still_before}
+use Rattle.tt_engine.specs.Requests.{answer}
+use Rattle.tt_run.specs.declared.top_call.NextLine.{NextLine}
 use Rattle.tt_run.specs.Runs.{IsNext}
-use Rattle.tt_run.specs.Session.{committed_rows, own_rows}
-use Rattle.tt_run.specs.declared.request.Request.{Request}
-use Rattle.tt_value.specs.declared.reply.Stop.TheVariants.{Logs}
-use Rattle.tt_run.proofs.RunLemmas.{either_left, ended_script, ended_rows, failed_commit, goes_on, goes_past, failed_put, moved_past, moved_rows, ended_moved}
+use Rattle.tt_run.proofs.RunLemmas.{begins, ended_script, failed_line, failed_put, failed_script, goes_on, goes_past, keeps_same, left_here, long_script}
 use Rattle.tt_run.proofs.top_call.do_line.Goals as goal
 
-pub returns-in-Err-clause-step : goal.returns-in-Err-clause-step
-returns-in-Err-clause-step g c = λ bytes left found before answered told run. (
-  answered,
-  ended_script bytes left (g.S.Source.left c.next_request.new.script) found before (g.K.Sink.given c.args.sink.now) answered c.args.reader.now c.args.session.now c.in-Err.status _ run
-      (c.in-Err.ensures.read bytes left run.lines told run.given) c.in-Err.ensures.cause,
-  ended_rows g.L.Volume.told found answered c.in-Err.status _ (g.L.Volume.now c.args.logs.now) (g.L.Volume.may c.args.logs.now) c.in-Err.ensures.cause,
-)
+pub returns-in-Ok-Skipped-clause-step : goal.returns-in-Ok-Skipped-clause-step
+returns-in-Ok-Skipped-clause-step g c = λ told bytes left start s before is_left run stands since.
+    let next = subst (λ (r : Result NextLine Failed). IsNext bytes run.lines r c.next_line.new.reader (g.S.Source.left c.next_line.new.script)) (c.in-Ok-Skipped.is ∙ ap (λ (n : NextLine). Ok n) c.in-Ok-Skipped.field-0-is) (c.next_line.ensures.read bytes left run.lines is_left run.given) in
+    let (rest, told_rest, running) = goes_past bytes left (g.S.Source.left c.next_line.new.script) start s before (g.K.Sink.given c.args.sink.now) c.args.reader.now c.next_line.new.reader run next in
+    (s, rest, told_rest, running, begins s c.args.engine.now (g.L.Volume.now c.args.logs.now) (g.L.Volume.may c.args.logs.now) stands)
 
-pub returns-in-Ok-None-clause-step : goal.returns-in-Ok-None-clause-step
-returns-in-Ok-None-clause-step g c = λ bytes left found before answered told run.
-    let next = subst (λ (o : Option Request). IsNext bytes run.lines (Ok o) c.next_request.new.reader (g.S.Source.left c.next_request.new.script)) c.in-Ok-None.field-0-is (c.in-Ok-None.ensures.read bytes left run.lines told run.given) in
-    let (rest, is_left, running) = goes_past bytes left (g.S.Source.left c.next_request.new.script) found before (g.K.Sink.given c.args.sink.now) answered
-    c.args.reader.now c.next_request.new.reader c.args.session.now run next in (
-      [],
-      rest,
-      is_left,
-      running,
-      moved_past g.L.Volume.told found answered (g.L.Volume.now c.args.logs.now) (g.L.Volume.may c.args.logs.now),
+pub returns-in-Ok-End-clause-step : goal.returns-in-Ok-End-clause-step
+returns-in-Ok-End-clause-step g c = λ told bytes left start s before is_left run stands since.
+    let next = subst (λ (r : Result NextLine Failed). IsNext bytes run.lines r c.next_line.new.reader (g.S.Source.left c.next_line.new.script)) (c.in-Ok-End.is ∙ ap (λ (n : NextLine). Ok n) c.in-Ok-End.field-0-is) (c.next_line.ensures.read bytes left run.lines is_left run.given) in
+    ended_script bytes left (g.S.Source.left c.next_line.new.script) start s before (g.K.Sink.given c.args.sink.now) c.next_line.new.reader c.args.reader.now c.args.engine.now c.end_script.new.engine
+    (g.L.Volume.now c.args.logs.now) (g.L.Volume.now c.end_script.new.logs) (g.L.Volume.may c.args.logs.now) (g.L.Volume.may c.end_script.new.logs) c.end_script.result run next (c.end_script.ensures.ends told s stands since)
+
+pub returns-in-Ok-ScriptTooLong-clause-step : goal.returns-in-Ok-ScriptTooLong-clause-step
+returns-in-Ok-ScriptTooLong-clause-step g c = λ told bytes left start s before is_left run stands since.
+    let next = subst (λ (r : Result NextLine Failed). IsNext bytes run.lines r c.next_line.new.reader (g.S.Source.left c.next_line.new.script)) (c.in-Ok-ScriptTooLong.is ∙ ap (λ (n : NextLine). Ok n) c.in-Ok-ScriptTooLong.field-0-is) (c.next_line.ensures.read bytes left run.lines is_left run.given) in (
+      s,
+      s,
+      long_script bytes left (g.S.Source.left c.next_line.new.script) start s before (g.K.Sink.given c.args.sink.now) c.args.reader.now run next,
+      left_here s _ (g.L.Volume.now c.args.logs.now) (g.L.Volume.may c.args.logs.now) (c.opens_after_crash.ensures.forced told s stands) (c.opens_after_crash.ensures.settled told s stands),
+      same_onward s,
     )
 
-pub returns-in-Err-answer-clause-step : goal.returns-in-Err-answer-clause-step
-returns-in-Err-answer-clause-step g c = λ bytes left found before answered told run.
-    let next = subst (λ (o : Option Request). IsNext bytes run.lines (Ok o) c.next_request.new.reader (g.S.Source.left c.next_request.new.script)) c.in-Ok-Some.field-0-is (c.in-Ok-Some.ensures.read bytes left run.lines told run.given) in (
-      answered,
-      failed_commit bytes left (g.S.Source.left c.next_request.new.script) found before (g.K.Sink.given c.args.sink.now) answered c.args.reader.now c.next_request.new.reader c.args.session.now Logs c.in-Ok-Some.request run
-          next c.in-Err-answer.ensures.fails,
-      record {
-        rows = λ _ _. tt;
-        crash = λ known has leaves. either_left found answered Logs (g.L.Volume.may c.answer.new.logs) (c.in-Err-answer.ensures.crash known (committed_rows found answered) (own_rows [] answered) run.knows has leaves);
-      },
+pub returns-in-Err-clause-step : goal.returns-in-Err-clause-step
+returns-in-Err-clause-step g c = λ told bytes left start s before is_left run stands since.
+    let next = subst (λ (r : Result NextLine Failed). IsNext bytes run.lines r c.next_line.new.reader (g.S.Source.left c.next_line.new.script)) c.in-Err.is (c.next_line.ensures.read bytes left run.lines is_left run.given) in (
+      s,
+      s,
+      failed_script bytes left (g.S.Source.left c.next_line.new.script) start s before (g.K.Sink.given c.args.sink.now) c.args.reader.now run next,
+      left_here s _ (g.L.Volume.now c.args.logs.now) (g.L.Volume.may c.args.logs.now) (c.opens_after_crash.ensures.forced told s stands) (c.opens_after_crash.ensures.settled told s stands),
+      same_onward s,
+    )
+
+pub returns-in-Err-step-clause-step : goal.returns-in-Err-step-clause-step
+returns-in-Err-step-clause-step g c = λ told bytes left start s before is_left run stands since.
+    let next = subst (λ (r : Result NextLine Failed). IsNext bytes run.lines r c.next_line.new.reader (g.S.Source.left c.next_line.new.script)) (c.in-Ok-Asks.is ∙ ap (λ (n : NextLine). Ok n) c.in-Ok-Asks.field-0-is) (c.next_line.ensures.read bytes left run.lines is_left run.given) in (
+      s,
+      (answer c.in-Ok-Asks.request s).1,
+      failed_line bytes left (g.S.Source.left c.next_line.new.script) start s before (g.K.Sink.given c.args.sink.now) c.args.reader.now c.next_line.new.reader c.in-Ok-Asks.request run next,
+      (λ kept. (c.in-Err-step.ensures.crash told s stands kept).leaves),
+      c.step.ensures.onward told s stands,
     )
 
 pub returns-in-Ok-put_reply-clause-step : goal.returns-in-Ok-put_reply-clause-step
-returns-in-Ok-put_reply-clause-step g c = λ bytes left found before answered told run.
-    let next = subst (λ (o : Option Request). IsNext bytes run.lines (Ok o) c.next_request.new.reader (g.S.Source.left c.next_request.new.script)) c.in-Ok-Some.field-0-is (c.in-Ok-Some.ensures.read bytes left run.lines told run.given) in
-    let answers = c.in-Ok.ensures.answers (committed_rows found answered) (own_rows [] answered) run.knows in
-    let (rest, is_left, running) = goes_on bytes left (g.S.Source.left c.next_request.new.script) found before (g.K.Sink.given c.args.sink.now) (g.K.Sink.given c.put_reply.new.sink) answered
-    c.args.reader.now c.next_request.new.reader c.args.session.now c.answer.new.self c.in-Ok-Some.request c.in-Ok.reply run next answers c.in-Ok-put_reply.ensures.whole in (
-      (c.in-Ok-Some.request, c.in-Ok.reply) ∷ [],
+returns-in-Ok-put_reply-clause-step g c = λ told bytes left start s before is_left run stands since.
+    let next = subst (λ (r : Result NextLine Failed). IsNext bytes run.lines r c.next_line.new.reader (g.S.Source.left c.next_line.new.script)) (c.in-Ok-Asks.is ∙ ap (λ (n : NextLine). Ok n) c.in-Ok-Asks.field-0-is) (c.next_line.ensures.read bytes left run.lines is_left run.given) in
+    let so = c.in-Ok.ensures.answers told s stands in
+    let (rest, told_rest, running) = goes_on bytes left (g.S.Source.left c.next_line.new.script) start s so.after before (g.K.Sink.given c.args.sink.now) (g.K.Sink.given c.put_reply.new.sink) c.args.reader.now c.next_line.new.reader
+    c.in-Ok-Asks.request c.in-Ok.reply run next so.answers c.in-Ok-put_reply.ensures.whole in (
+      so.after,
       rest,
-      is_left,
+      told_rest,
       running,
-      moved_rows g.L.Volume.told found answered c.in-Ok-Some.request c.in-Ok.reply (g.L.Volume.now c.args.logs.now) (g.L.Volume.now c.answer.new.logs) (g.L.Volume.may c.args.logs.now) (g.L.Volume.may c.answer.new.logs)
-          (λ known has. c.in-Ok.ensures.rows known (committed_rows found answered) (own_rows [] answered) run.knows has)
-          (λ known has leaves. c.in-Ok.ensures.crash known (committed_rows found answered) (own_rows [] answered) run.knows has leaves),
+      record {
+        stands = so.stands;
+        kept = c.in-Ok.ensures.kept told;
+        onward = so.onward;
+        still = λ still.
+            let (first, quiet) = still_before s so.after since so.onward still in (
+              first,
+              subst (λ v. Keeps (g.L.Volume.now c.args.logs.now) (g.L.Volume.now v) (g.L.Volume.may c.args.logs.now) (g.L.Volume.may v)) (sym (so.quiet quiet)) (keeps_same (g.L.Volume.now c.args.logs.now) (g.L.Volume.may c.args.logs.now)),
+            );
+      },
     )
 
 pub returns-in-Err-put_reply-clause-step : goal.returns-in-Err-put_reply-clause-step
-returns-in-Err-put_reply-clause-step g c = λ bytes left found before answered told run.
-    let next = subst (λ (o : Option Request). IsNext bytes run.lines (Ok o) c.next_request.new.reader (g.S.Source.left c.next_request.new.script)) c.in-Ok-Some.field-0-is (c.in-Ok-Some.ensures.read bytes left run.lines told run.given) in
-    let answers = c.in-Ok.ensures.answers (committed_rows found answered) (own_rows [] answered) run.knows in
+returns-in-Err-put_reply-clause-step g c = λ told bytes left start s before is_left run stands since.
+    let next = subst (λ (r : Result NextLine Failed). IsNext bytes run.lines r c.next_line.new.reader (g.S.Source.left c.next_line.new.script)) (c.in-Ok-Asks.is ∙ ap (λ (n : NextLine). Ok n) c.in-Ok-Asks.field-0-is) (c.next_line.ensures.read bytes left run.lines is_left run.given) in
+    let so = c.in-Ok.ensures.answers told s stands in
     let (n, part) = c.in-Err-put_reply.ensures.prefix in (
-      answered ++ (c.in-Ok-Some.request, c.in-Ok.reply) ∷ [],
-      failed_put bytes left (g.S.Source.left c.next_request.new.script) found before (g.K.Sink.given c.args.sink.now) (g.K.Sink.given c.put_reply.new.sink) answered
-          c.args.reader.now c.next_request.new.reader c.args.session.now c.answer.new.self c.in-Ok-Some.request c.in-Ok.reply n run next answers part,
-      ended_moved g.L.Volume.told (committed_rows found answered) found (answered ++ (c.in-Ok-Some.request, c.in-Ok.reply) ∷ []) (g.L.Volume.now c.args.logs.now) (g.L.Volume.now c.answer.new.logs) (g.L.Volume.may c.args.logs.now) (g.L.Volume.may c.answer.new.logs)
-          (moved_rows g.L.Volume.told found answered c.in-Ok-Some.request c.in-Ok.reply (g.L.Volume.now c.args.logs.now) (g.L.Volume.now c.answer.new.logs) (g.L.Volume.may c.args.logs.now) (g.L.Volume.may c.answer.new.logs)
-          (λ known has. c.in-Ok.ensures.rows known (committed_rows found answered) (own_rows [] answered) run.knows has)
-          (λ known has leaves. c.in-Ok.ensures.crash known (committed_rows found answered) (own_rows [] answered) run.knows has leaves)),
+      so.after,
+      so.after,
+      failed_put bytes left (g.S.Source.left c.next_line.new.script) start s so.after before (g.K.Sink.given c.args.sink.now) (g.K.Sink.given c.put_reply.new.sink) c.args.reader.now c.next_line.new.reader
+          c.in-Ok-Asks.request c.in-Ok.reply n run next so.answers part,
+      record {
+        opens = c.opens_after_crash-2.ensures.forced told so.after so.stands;
+        settled_again = λ kept. c.opens_after_crash-2.ensures.settled told so.after so.stands (c.in-Ok.ensures.kept told kept);
+        still = λ still.
+            let (first, quiet) = still_before s so.after since so.onward still in
+            subst (λ v. Keeps (g.L.Volume.now c.args.logs.now) (g.L.Volume.now v) (g.L.Volume.may c.args.logs.now) (g.L.Volume.may v)) (sym (so.quiet quiet)) (keeps_same (g.L.Volume.now c.args.logs.now) (g.L.Volume.may c.args.logs.now));
+      },
+      so.onward,
     )

@@ -1,15 +1,69 @@
-use Rattle.std.proofs.Common.{Result, List, subst}
-use Rattle.tt_run.specs.declared.load.OpenRefusal.{OpenRefusal}
-use Rattle.tt_run.specs.Rows.{Row}
-use Rattle.tt_run.specs.Runs.{IsOpened}
-use Rattle.tt_run.proofs.RunLemmas.{completes}
+use Rattle.std.proofs.Common.{◌≡◌, ◌⊎◌, ◌∙◌, inl, length, refl, sym, subst, Ok, Err, Result}
+use Rattle.tt_engine.specs.Prefixes.{LeavesOpening, LogsAreSettled}
+use Rattle.tt_engine.specs.Starts.{begun_over, database}
+use Rattle.tt_run.specs.Runs.{IsRun}
+use Rattle.tt_model.specs.Found.{Found}
+use Rattle.tt_set.specs.declared.settings.Settings.{Settings}
+use Rattle.tt_engine.specs.declared.refusal.OpenRefusal.{OpenRefusal}
+use Rattle.tt_run.proofs.OpenLemmas.{completes, none_left, script_run_cause}
+use Rattle.tt_run.proofs.SettingsLemmas.{ended_bad, ended_cause, ended_complete, ended_created, ended_early, ended_not_usage, ended_opened, ended_so, ended_text, said_not_bad, same_settings}
+use Rattle.tt_run.specs.Openings.{EndedEarly, IsOpened}
 use Rattle.tt_run.proofs.top_call.run.Goals as goal
 
-pub returns-in-Some-Run-clause-ran : goal.returns-in-Some-Run-clause-ran
-returns-in-Some-Run-clause-ran g c = λ bytes found told form is_script is. c.run_script.ensures.ran bytes found told is_script is
+pub returns-in-Err-clause-usage : goal.returns-in-Err-clause-usage
+returns-in-Err-clause-usage g c = (
+  λ usage. absurd (ended_not_usage c.in-Err.status _ (ended_so c.in-Err.status _ c.in-Err.ensures.cause) usage),
+  λ none. let some = sym c.in-Some.is ∙ c.read_words.ensures ∙ none in cc,
+)
 
-pub returns-in-Some-Run-clause-complete_run : goal.returns-in-Some-Run-clause-complete_run
-returns-in-Some-Run-clause-complete_run g c = λ bytes found told form is_script is short no_script no_sink no_logs.
-    completes bytes (g.S.Source.left c.run_script.new.script) found (g.K.Sink.given c.args.sink.now) (g.K.Sink.given c.run_script.new.sink) c.run_script.result (g.L.Volume.now c.run_script.new.logs)
-    (g.L.Volume.may c.args.logs.now) (g.L.Volume.may c.run_script.new.logs) _ _ _ _ _ _ (c.run_script.ensures.ran bytes found told is_script is)
-    (subst (λ (r : Result (List Row) OpenRefusal). IsOpened r c.run_script.result) is (c.run_script.ensures.opened told)) c.run_script.ensures.cause short no_script no_sink no_logs
+pub returns-in-Err-clause-bad_attribute : goal.returns-in-Err-clause-bad_attribute
+returns-in-Err-clause-bad_attribute g c = λ text name form told says. ended_bad c.in-Err.status _ name (ended_so c.in-Err.status _ c.in-Err.ensures.cause) (c.in-Err.ensures.only text (Err name) told says)
+
+pub returns-in-Err-clause-created : goal.returns-in-Err-clause-created
+returns-in-Err-clause-created g c = λ text settings known form told says. ended_created c.in-Err.status _ settings _ _ _ (ended_so c.in-Err.status _ c.in-Err.ensures.cause) (c.in-Err.ensures.only text (Ok settings) told says)
+
+pub returns-in-Err-clause-no_entry : goal.returns-in-Err-clause-no_entry
+returns-in-Err-clause-no_entry g c = λ told form none. none_left (g.L.Volume.may c.args.logs.now) none
+
+pub returns-in-Err-clause-create_text : goal.returns-in-Err-clause-create_text
+returns-in-Err-clause-create_text g c = λ form. ended_text c.in-Err.status _ _ (g.K.Sink.given c.args.sink.now) (ended_so c.in-Err.status _ c.in-Err.ensures.cause) refl
+
+pub returns-in-Err-clause-opened : goal.returns-in-Err-clause-opened
+returns-in-Err-clause-opened g c = λ text settings known form told says. ended_opened c.in-Err.status _ settings _ (ended_so c.in-Err.status _ c.in-Err.ensures.cause) (c.in-Err.ensures.only text (Ok settings) told says)
+
+pub returns-in-Err-clause-ran : goal.returns-in-Err-clause-ran
+returns-in-Err-clause-ran g c = λ bytes text settings found known form script told says is. inl (ended_early c.in-Err.status _ _ settings (ended_so c.in-Err.status _ c.in-Err.ensures.cause) (c.in-Err.ensures.only text (Ok settings) told says))
+
+pub returns-in-Err-clause-complete_run : goal.returns-in-Err-clause-complete_run
+returns-in-Err-clause-complete_run g c = λ bytes text settings found known form script told says is place short no_script no_attributes no_sink no_logs.
+    ended_complete c.in-Err.status _ settings (ended_so c.in-Err.status _ c.in-Err.ensures.cause) (c.in-Err.ensures.only text (Ok settings) told says) no_attributes
+
+pub returns-in-Err-clause-complete_create : goal.returns-in-Err-clause-complete_create
+returns-in-Err-clause-complete_create g c = λ text settings known form told says none no_attributes no_sink no_logs.
+    ended_complete c.in-Err.status _ settings (ended_so c.in-Err.status _ c.in-Err.ensures.cause) (c.in-Err.ensures.only text (Ok settings) told says) no_attributes
+
+pub returns-in-Err-clause-cause : goal.returns-in-Err-clause-cause
+returns-in-Err-clause-cause g c = ended_cause c.in-Err.status _ _ _ _ _ _ (ended_so c.in-Err.status _ c.in-Err.ensures.cause)
+
+pub returns-in-Create-clause-bad_attribute : goal.returns-in-Create-clause-bad_attribute
+returns-in-Create-clause-bad_attribute g c = λ text name form told says. absurd (said_not_bad name c.in-Ok.settings (c.in-Ok.ensures.only text (Err name) told says))
+
+pub returns-in-Run-clause-bad_attribute : goal.returns-in-Run-clause-bad_attribute
+returns-in-Run-clause-bad_attribute g c = λ text name form told says. absurd (said_not_bad name c.in-Ok.settings (c.in-Ok.ensures.only text (Err name) told says))
+
+pub returns-in-Run-clause-ran : goal.returns-in-Run-clause-ran
+returns-in-Run-clause-ran g c = λ bytes text settings found known form script told says is.
+    let same = same_settings settings c.in-Ok.settings (c.in-Ok.ensures.only text (Ok settings) told says) in
+    let settled : Type 0 = LogsAreSettled (g.L.Volume.now c.args.logs.now) (g.L.Volume.may c.args.logs.now) in
+    subst (λ (s : Settings). EndedEarly c.run_script.result ((c.run_script.new.script ≡ c.args.script.now) × (c.run_script.new.sink ≡ c.args.sink.now)
+    × (settled → LeavesOpening (length found.entries) (begun_over s (g.L.Volume.now c.args.logs.now) found) (g.L.Volume.may c.run_script.new.logs)))
+    ⊎ IsRun bytes (g.S.Source.left c.run_script.new.script) (begun_over s (g.L.Volume.now c.args.logs.now) found) (g.K.Sink.given c.args.sink.now) (g.K.Sink.given c.run_script.new.sink) c.run_script.result
+    settled (g.L.Volume.now c.args.logs.now) (g.L.Volume.now c.run_script.new.logs) (g.L.Volume.may c.args.logs.now) (g.L.Volume.may c.run_script.new.logs)) (sym same) (c.run_script.ensures.ran bytes found known script is)
+
+pub returns-in-Run-clause-complete_run : goal.returns-in-Run-clause-complete_run
+returns-in-Run-clause-complete_run g c = λ bytes text settings found known form script told says is place short no_script no_attributes no_sink no_logs.
+    let same = same_settings settings c.in-Ok.settings (c.in-Ok.ensures.only text (Ok settings) told says) in
+    let opened = subst (λ (s : Settings). IsOpened s (database (g.L.Volume.now c.args.logs.now)) c.run_script.result) (sym same) (c.run_script.ensures.opened known) in
+    completes bytes (g.S.Source.left c.run_script.new.script) settings found (begun_over c.in-Ok.settings (g.L.Volume.now c.args.logs.now) found) (g.K.Sink.given c.args.sink.now) (g.K.Sink.given c.run_script.new.sink) c.run_script.result _ _
+    (g.L.Volume.now c.args.logs.now) (g.L.Volume.now c.run_script.new.logs) (g.L.Volume.may c.args.logs.now) (g.L.Volume.may c.run_script.new.logs) _ ⊥ _ _ ⊥ ⊥ (c.run_script.ensures.ran bytes found known script is)
+    (subst (λ (r : Result Found OpenRefusal). IsOpened settings r c.run_script.result) is opened) (script_run_cause c.run_script.result _ _ _ c.run_script.ensures.statuses) place short no_script (λ none. none) no_sink no_logs

@@ -1,0 +1,138 @@
+-- How a run begins: a database that is made, or opened, or refused.
+use Rattle.std.specs.Prelude.{◌≡◌, ◌⊎◌, ℕ, List, [], ◌∷◌, ◌++◌, codes, take, Option, Some, None, IsSome, Result, Ok, Err}
+use Rattle.std.specs.Io.KnownBytes.{Appends}
+use Rattle.tt_disk.specs.declared.volume.Name.{Name}
+use Rattle.tt_disk.specs.declared.volume.Name.TheVariants.{Log as LogFile}
+use Rattle.tt_value.specs.declared.position.Position.{Position}
+use Rattle.tt_value.specs.declared.reply.Stop.TheVariants.{Logs, Images, Backups}
+use Rattle.tt_record.specs.declared.entry.Entry.TheVariants.{Mark}
+use Rattle.tt_record.specs.Entries.{length_of}
+use Rattle.tt_record.specs.Places.{place_of, position}
+use Rattle.tt_set.specs.declared.settings.Settings.{Settings}
+use Rattle.tt_log.specs.Walk.{Files}
+use Rattle.tt_log.specs.Logs.{MayLeave}
+use Rattle.tt_model.specs.Found.{Found}
+use Rattle.tt_recover.specs.Opening.{found_by, opening}
+use Rattle.tt_engine.specs.Starts.{database}
+use Rattle.tt_engine.specs.declared.refusal.OpenRefusal.{OpenRefusal}
+use Rattle.tt_engine.specs.declared.refusal.OpenRefusal.TheVariants as refusal
+use Rattle.tt_run.specs.declared.status.Status.{Status}
+use Rattle.tt_run.specs.declared.status.Status.TheVariants.{Done, ScriptFault, AttributesFault, SinkFault, VolumeFault, NoMemory, Usage, Damaged, Exists, NoDatabase, BadAttribute, LogOut, ScriptTooLong}
+
+-- ---- statuses
+
+-- statuses that come before any line was read or any reply written, and before any log file changed
+abbrev pub IsBeforeLines : Status → Type 0
+IsBeforeLines AttributesFault = Unit {0}
+IsBeforeLines NoMemory = Unit {0}
+IsBeforeLines Usage = Unit {0}
+IsBeforeLines (Damaged damage) = Unit {0}
+IsBeforeLines Exists = Unit {0}
+IsBeforeLines NoDatabase = Unit {0}
+IsBeforeLines (BadAttribute name) = Unit {0}
+IsBeforeLines LogOut = Unit {0}
+IsBeforeLines _ = ⊥
+
+-- where a device failed, this is so of its count
+abbrev pub IsFaultOf : Status → Type 0 → Type 0 → Type 0 → Type 0 → Type 0 → Type 0 → Type 0
+IsFaultOf ScriptFault script attributes sink logs images backups = script
+IsFaultOf AttributesFault script attributes sink logs images backups = attributes
+IsFaultOf SinkFault script attributes sink logs images backups = sink
+IsFaultOf (VolumeFault Logs) script attributes sink logs images backups = logs
+IsFaultOf (VolumeFault Images) script attributes sink logs images backups = images
+IsFaultOf (VolumeFault Backups) script attributes sink logs images backups = backups
+IsFaultOf _ script attributes sink logs images backups = Unit {0}
+
+-- the attributes, memory or the log files failed before the database was open
+abbrev pub FailedEarly : Status → Type 0
+FailedEarly AttributesFault = Unit {0}
+FailedEarly NoMemory = Unit {0}
+FailedEarly (VolumeFault Logs) = Unit {0}
+FailedEarly _ = ⊥
+
+-- how a run of a script may end; where a device failed, its count is this
+abbrev pub IsScriptRunEnd : Status → Type 0 → Type 0 → Type 0 → Type 0
+IsScriptRunEnd Usage script sink logs = ⊥
+IsScriptRunEnd Exists script sink logs = ⊥
+IsScriptRunEnd AttributesFault script sink logs = ⊥
+IsScriptRunEnd (BadAttribute name) script sink logs = ⊥
+IsScriptRunEnd status script sink logs = IsFaultOf status script ⊥ sink logs ⊥ ⊥
+
+-- how the making of a database may end
+abbrev pub IsCreateEnd : Status → Type 0 → Type 0 → Type 0
+IsCreateEnd Done sink logs = Unit {0}
+IsCreateEnd SinkFault sink logs = sink
+IsCreateEnd (VolumeFault Logs) sink logs = logs
+IsCreateEnd Exists sink logs = Unit {0}
+IsCreateEnd _ sink logs = ⊥
+
+-- the status of a database that can't be opened
+abbrev pub status_of : OpenRefusal → Status
+status_of refusal.NoDatabase = NoDatabase
+status_of (refusal.Damaged damage) = Damaged damage
+status_of refusal.LogOut = LogOut
+status_of refusal.Failed = VolumeFault Logs
+status_of refusal.NoMemory = NoMemory
+
+-- ---- `run DIR`
+
+-- where the Mark would stand with which a run over this begins
+abbrev pub mark_place : Settings → Found → Option Position
+mark_place settings found = place_of found.end (length_of Mark) settings.log_file_size
+
+-- How a run ended where the database was opened as this: what can't be opened is refused so, and where there is no place for a Mark,
+-- no line is done. The attributes, memory or the log files may have failed before.
+abbrev pub IsOpened : Settings → Result Found OpenRefusal → Status → Type 0
+IsOpened settings (Err refusal) status = (status ≡ status_of refusal) ⊎ FailedEarly status
+IsOpened settings (Ok found) Done = IsSome (mark_place settings found)
+IsOpened settings (Ok found) ScriptFault = IsSome (mark_place settings found)
+IsOpened settings (Ok found) SinkFault = IsSome (mark_place settings found)
+IsOpened settings (Ok found) ScriptTooLong = IsSome (mark_place settings found)
+IsOpened settings (Ok found) LogOut = mark_place settings found ≡ None
+IsOpened settings (Ok found) AttributesFault = Unit {0}
+IsOpened settings (Ok found) NoMemory = Unit {0}
+IsOpened settings (Ok found) (VolumeFault Logs) = Unit {0}
+IsOpened settings (Ok found) _ = ⊥
+
+-- A run ended before its first line: where the log files failed at opening, this is so.
+abbrev pub EndedEarly : Status → Type 0 → Type 0
+EndedEarly AttributesFault failed = Unit {0}
+EndedEarly NoMemory failed = Unit {0}
+EndedEarly LogOut failed = Unit {0}
+EndedEarly (VolumeFault Logs) failed = failed
+EndedEarly _ failed = ⊥
+
+-- ---- `create DIR`
+
+-- a new database: no entries, and so no rows
+abbrev pub new_database : Found
+new_database = found_by [] (position 0 0)
+
+-- it stands in these files, and in each map of files that a crash may leave
+abbrev pub HasNewDatabase : Files → (Name → Option (List ℕ) → Type 0) → Type 0
+HasNewDatabase now may = (database now ≡ Ok new_database) × ((files : Files) → MayLeave may files → database files ≡ Ok new_database)
+
+-- How `create` ended where the first log file was this: where it was there, it is refused; else a new database was made, unless the
+-- log files failed. The attributes or memory may have failed before.
+abbrev pub IsCreated : Option (List ℕ) → Status → Files → (Name → Option (List ℕ) → Type 0) → Type 0
+IsCreated (Some file) Exists now may = Unit {0}
+IsCreated None Done now may = HasNewDatabase now may
+IsCreated None SinkFault now may = HasNewDatabase now may
+IsCreated log AttributesFault now may = Unit {0}
+IsCreated log NoMemory now may = Unit {0}
+IsCreated log (VolumeFault Logs) now may = Unit {0}
+IsCreated log _ now may = ⊥
+
+-- a crash leaves no first log file
+abbrev pub LeavesNoLog : (Name → Option (List ℕ) → Type 0) → Type 0
+LeavesNoLog may = (c : Option (List ℕ)) → may (LogFile 0) c → c ≡ None
+
+-- a crash leaves no log that opens with an entry
+abbrev pub LeavesNoEntry : (Name → Option (List ℕ) → Type 0) → Type 0
+LeavesNoEntry may = (files : Files) → MayLeave may files → (found : Found) → opening files ≡ Ok found → found.entries ≡ []
+
+-- what `create` wrote
+abbrev pub IsCreateText : Option (List ℕ) → Option (List ℕ) → Status → Type 0 → Type 0
+IsCreateText before after Done untouched = Appends before after (codes "created" ++ 10 ∷ [])
+IsCreateText before after SinkFault untouched = (n : ℕ) × Appends before after (take n (codes "created" ++ 10 ∷ []))
+IsCreateText before after _ untouched = untouched

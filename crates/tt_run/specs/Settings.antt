@@ -1,0 +1,45 @@
+-- What the attributes of a database lead to.
+use Rattle.std.specs.Prelude.{◌≡◌, ◌⊎◌, ℕ, List, Result, Ok, Err}
+use Rattle.tt_set.specs.Attributes.{Says}
+use Rattle.tt_set.specs.declared.settings.Settings.{Settings}
+use Rattle.tt_run.specs.declared.status.Status.{Status}
+use Rattle.tt_run.specs.declared.status.Status.TheVariants.{AttributesFault, BadAttribute, NoMemory}
+
+-- what a text of attributes says, unless they couldn't be read
+abbrev pub IsFrom : List ℕ → Result Settings Status → Type 0
+IsFrom text (Ok settings) = Says text (Ok settings)
+IsFrom text (Err (BadAttribute name)) = Says text (Err name)
+IsFrom text (Err AttributesFault) = Unit {0}
+IsFrom text (Err NoMemory) = Unit {0}
+IsFrom text (Err _) = ⊥
+
+-- this is what was said, unless they couldn't be read
+abbrev pub IsSaid : Result Settings (List ℕ) → Result Settings Status → Type 0
+IsSaid said (Ok settings) = said ≡ Ok settings
+IsSaid said (Err (BadAttribute name)) = said ≡ Err name
+IsSaid said (Err AttributesFault) = Unit {0}
+IsSaid said (Err NoMemory) = Unit {0}
+IsSaid said (Err _) = ⊥
+
+-- they couldn't be read; where they failed, this is so of their count
+abbrev pub IsUnread : Status → Type 0 → Type 0
+IsUnread AttributesFault fault = fault
+IsUnread NoMemory fault = Unit {0}
+IsUnread _ fault = ⊥
+
+-- the settings were read, or the run ends so; where the attributes failed, this is so of their count
+abbrev pub IsReadEnd : Result Settings Status → Type 0 → Type 0
+IsReadEnd (Ok settings) fault = Unit {0}
+IsReadEnd (Err AttributesFault) fault = fault
+IsReadEnd (Err (BadAttribute name)) fault = Unit {0}
+IsReadEnd (Err NoMemory) fault = Unit {0}
+IsReadEnd (Err _) fault = ⊥
+
+-- a run that ended so had attributes that aren't right
+abbrev pub IsBadSo : List ℕ → Status → Type 0
+IsBadSo text (BadAttribute name) = Says text (Err name)
+IsBadSo text _ = Unit {0}
+
+-- where this name isn't right, the run ends so, unless the attributes couldn't be read
+abbrev pub IsRefusedFor : List ℕ → Status → Type 0
+IsRefusedFor name status = (status ≡ BadAttribute name) ⊎ ((status ≡ AttributesFault) ⊎ (status ≡ NoMemory))

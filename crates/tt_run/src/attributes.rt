@@ -1,0 +1,86 @@
+// The settings that a source of attributes gives.
+ghost use Rattle.std.specs.Prelude.{◌≡◌, ◌≤◌, ◌+◌, ◌++◌, ◌<◌, [], length, take, List, ℕ, Result, Some, IfOk, IfErr};
+ghost use Rattle.tt_disk.specs.Causes.{HasCause, RoseWhere, Rose};
+ghost use Rattle.tt_set.specs.Attributes.{AreInRange, Says};
+ghost use Rattle.tt_set.specs.declared.settings.Settings.{Settings};
+ghost use Rattle.tt_run.specs.Settings.{IsFrom, IsSaid, IsReadEnd, IsUnread};
+
+use crate::status::Status;
+use std::alloc::Global;
+use tt_disk::Failed;
+use tt_flow::Source;
+use tt_set::{SetRefusal, Settings, read_settings};
+
+// A text of attributes has at most 65,536 bytes; one more tells that it is longer.
+const READ_MAX: usize = 65_537;
+
+// The settings of a database. The attributes are read to their end, or to the byte that is too many.
+pub(crate) fn settings_of<A: Source>(alloc: Global, attributes: &mut A) -> Result<Settings, Status>
+    ensures range { IfOk result AreInRange }
+    ensures says { (text : List ℕ) → A.left attributes.old ≡ Some text → IsFrom text result }
+    ensures only { (text : List ℕ) (said : Result Settings (List ℕ)) → A.left attributes.old ≡ Some text → Says text said
+        → IsSaid said result }
+    ensures cause { IsReadEnd result (Rose (A.faults attributes.old) (A.faults attributes.new)) }
+{
+    let text = match read_text(alloc, attributes, READ_MAX) {
+        Ok(text) => text,
+        Err(status) => return Err(status),
+    };
+    match read_settings(alloc, text.as_slice()) {
+        Ok(settings) => Ok(settings),
+        Err(SetRefusal::Bad { name }) => Err(Status::BadAttribute(name)),
+        Err(SetRefusal::NoMemory) => Err(Status::NoMemory),
+    }
+}
+
+// The attributes to their end, or so many bytes of them.
+fn read_text<A: Source>(alloc: Global, attributes: &mut A, most: usize) -> Result<Vec<u8>, Status>
+    ensures bytes { (text : List ℕ) → A.left attributes.old ≡ Some text → IfOk result (λ read. read.items ≡ take most text) }
+    ensures refused { IfErr result (λ status. IsUnread status (Rose (A.faults attributes.old) (A.faults attributes.new))) }
+{
+    let mut text = match vec![in alloc; 0; most] {
+        Ok(text) => text,
+        Err(_) => return Err(Status::NoMemory),
+    };
+    let length = match fill(attributes, &mut text) {
+        Ok(length) => length,
+        Err(_) => return Err(Status::AttributesFault),
+    };
+    text.truncate(length);
+    Ok(text)
+}
+
+// Fills the buffer's front with what a source gives up to its end, as far as there is room, and answers how many bytes that is.
+fn fill<A: Source>(source: &mut A, buffer: &mut [u8]) -> Result<usize, Failed>
+    ensures bound { IfOk result (λ n. n ≤ length buffer.new) }
+    ensures long { length buffer.new ≡ length buffer.old }
+    ensures bytes { (text : List ℕ) → A.left source.old ≡ Some text
+        → IfOk result (λ n. take n buffer.new ≡ take (length buffer.old) text) }
+    ensures cause { HasCause (A.faults source.old) (A.faults source.new) result }
+{
+    let mut used = 0;
+    'pieces: while used < buffer.len() {
+        let given = match take_behind(source, buffer, used) {
+            Ok(given) => given,
+            Err(failed) => return Err(failed),
+        };
+        if given == 0 {
+            return Ok(used);
+        }
+        used += given;
+    }
+    Ok(used)
+}
+
+// Takes bytes from a source into the buffer behind so many, and answers how many; 0 comes at the end of input alone.
+fn take_behind<A: Source>(source: &mut A, buffer: &mut [u8], used: usize) -> Result<usize, Failed>
+    requires { used < length buffer.old }
+    ensures long { length buffer.new ≡ length buffer.old }
+    ensures bound { IfOk result (λ n. used + n ≤ length buffer.new) }
+    ensures bytes { (left : List ℕ) → A.left source.old ≡ Some left
+        → IfOk result (λ n. (rest : List ℕ) × (A.left source.new ≡ Some rest)
+        × (take (used + n) buffer.new ++ rest ≡ take used buffer.old ++ left) × (n ≡ 0 → rest ≡ [])) }
+    ensures cause { HasCause (A.faults source.old) (A.faults source.new) result }
+{
+    source.take(&mut buffer[used..])
+}
