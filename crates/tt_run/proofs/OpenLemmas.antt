@@ -1,5 +1,5 @@
 -- How a run begins.
-use Rattle.std.proofs.Common.{◌≡◌, ◌⊎◌, inl, inr, ◌^◌, ◌+◌, ◌≤◌, ◌∙◌, ℕ, [], List, length, Option, Some, None, Result, Ok, Err, refl, sym, ap, ap₂, subst, arith}
+use Rattle.std.proofs.Common.{◌≡◌, ◌⊎◌, inl, inr, ◌^◌, ◌+◌, ◌<◌, ◌≤◌, ◌∙◌, ℕ, [], List, length, Option, Some, None, Result, Ok, Err, refl, sym, ap, ap₂, subst, arith}
 use Rattle.std.specs.Prelude.{IsSome, option_map}
 use Rattle.tt_disk.specs.Volume.{Keeps, size_of}
 use Rattle.tt_disk.specs.declared.volume.Name.TheVariants.{Log as LogFile}
@@ -69,8 +69,8 @@ database_new : (files : Files) → log_of 0 files ≡ Ok nothing → database fi
 unfolding opening
 database_new files is = ap₂ opened_in (there files nothing is).is (ap found_in is)
 
-pub new_made : (now : Files) (may : Outcomes) → log_of 0 now ≡ Ok nothing → LeavesThis 0 (Ok nothing) may → HasNewDatabase now may
-new_made now may made leaves = (database_new now made, λ files left. database_new files (leaves files left))
+pub new_made : (now : Files) (may : Outcomes) → log_of 0 now ≡ Ok nothing → ((k : ℕ) → 0 < k → k < 2 ^ 32 → now (LogFile k) ≡ None) → LeavesThis 0 (Ok nothing) may → HasNewDatabase now may
+new_made now may made alone leaves = (database_new now made, alone, λ files left. database_new files (leaves files left))
 
 -- a file that was sized and isn't there
 pub no_size : (o : Option (List ℕ)) → None ≡ option_map length o → o ≡ None

@@ -1,5 +1,5 @@
 -- How a run begins: a database that is made, or opened, or refused.
-use Rattle.std.specs.Prelude.{◌≡◌, ◌⊎◌, ℕ, List, [], ◌∷◌, ◌++◌, codes, take, Option, Some, None, IsSome, Result, Ok, Err}
+use Rattle.std.specs.Prelude.{◌<◌, ◌^◌, ◌≡◌, ◌⊎◌, ℕ, List, [], ◌∷◌, ◌++◌, codes, take, Option, Some, None, IsSome, Result, Ok, Err}
 use Rattle.std.specs.Io.KnownBytes.{Appends}
 use Rattle.tt_disk.specs.declared.volume.Name.{Name}
 use Rattle.tt_disk.specs.declared.volume.Name.TheVariants.{Log as LogFile}
@@ -108,9 +108,9 @@ EndedEarly _ failed = ⊥
 abbrev pub new_database : Found
 new_database = found_by [] (position 0 0)
 
--- it stands in these files, and in each map of files that a crash may leave
+-- it stands in these files, without another log file, and in each map of files that a crash may leave
 abbrev pub HasNewDatabase : Files → (Name → Option (List ℕ) → Type 0) → Type 0
-HasNewDatabase now may = (database now ≡ Ok new_database) × ((files : Files) → MayLeave may files → database files ≡ Ok new_database)
+HasNewDatabase now may = (database now ≡ Ok new_database) × ((k : ℕ) → 0 < k → k < 2 ^ 32 → now (LogFile k) ≡ None) × ((files : Files) → MayLeave may files → database files ≡ Ok new_database)
 
 -- How `create` ended where the first log file was this: where it was there, it is refused; else a new database was made, unless the
 -- log files failed. The attributes or memory may have failed before.

@@ -76,6 +76,10 @@ pub fn run<
     ensures unbegun { IsBeforeLines result → (script.new ≡ script.old) × (sink.new ≡ sink.old)
         × (L.told → Keeps (L.now logs.old) (L.now logs.new) (L.may logs.old) (L.may logs.new)) }
 
+    // The words come first, and `create DIR` reads no script.
+    ensures words_first { result ≡ Status.Usage → attributes.new ≡ attributes.old }
+    ensures create_script { form_of (map string_bytes words.now) ≡ Some Action.Create → script.new ≡ script.old }
+
     // `create DIR`, over a volume that tells its files.
     ensures created { (text : List ℕ) (settings : Settings) → L.told → form_of (map string_bytes words.now) ≡ Some Action.Create
         → A.left attributes.old ≡ Some text → Says text (Ok settings)

@@ -6,12 +6,12 @@ use Rattle.tt_run.proofs.top_call.create.Goals as goal
 pub returns-in-Ok-put-clause-created : goal.returns-in-Ok-put-clause-created
 returns-in-Ok-put-clause-created g c = λ told.
     (made_done (g.L.Volume.now c.args.logs.now (Log 0)) (g.L.Volume.now c.make.new.volume) (g.L.Volume.may c.make.new.volume) (no_size (g.L.Volume.now c.args.logs.now (Log 0)) (sym c.in-Ok-None.field-0-is ∙ c.in-Ok-None.ensures.size told))
-    (new_made (g.L.Volume.now c.make.new.volume) (g.L.Volume.may c.make.new.volume) (c.in-Ok.ensures.made told) (c.in-Ok.ensures.settled told))).0
+    (new_made (g.L.Volume.now c.make.new.volume) (g.L.Volume.may c.make.new.volume) (c.in-Ok.ensures.made told) (c.in-Ok.ensures.alone told) (c.in-Ok.ensures.settled told))).0
 
 pub returns-in-Err-put-clause-created : goal.returns-in-Err-put-clause-created
 returns-in-Err-put-clause-created g c = λ told.
     (made_done (g.L.Volume.now c.args.logs.now (Log 0)) (g.L.Volume.now c.make.new.volume) (g.L.Volume.may c.make.new.volume) (no_size (g.L.Volume.now c.args.logs.now (Log 0)) (sym c.in-Ok-None.field-0-is ∙ c.in-Ok-None.ensures.size told))
-    (new_made (g.L.Volume.now c.make.new.volume) (g.L.Volume.may c.make.new.volume) (c.in-Ok.ensures.made told) (c.in-Ok.ensures.settled told))).1
+    (new_made (g.L.Volume.now c.make.new.volume) (g.L.Volume.may c.make.new.volume) (c.in-Ok.ensures.made told) (c.in-Ok.ensures.alone told) (c.in-Ok.ensures.settled told))).1
 
 pub returns-in-Err-clause-no_entry : goal.returns-in-Err-clause-no_entry
 returns-in-Err-clause-no_entry g c = λ told none. no_entry_kept (g.L.Volume.now c.args.logs.now) (g.L.Volume.now c.size.new.self) (g.L.Volume.may c.args.logs.now) (g.L.Volume.may c.size.new.self) (c.size.ensures.keeps told) none

@@ -16,6 +16,9 @@ returns-in-Err-clause-usage g c = (
   λ none. let some = sym c.in-Some.is ∙ c.read_words.ensures ∙ none in cc,
 )
 
+pub returns-in-Err-clause-words_first : goal.returns-in-Err-clause-words_first
+returns-in-Err-clause-words_first g c = λ usage. absurd (ended_not_usage c.in-Err.status _ (ended_so c.in-Err.status _ c.in-Err.ensures.cause) usage)
+
 pub returns-in-Err-clause-bad_attribute : goal.returns-in-Err-clause-bad_attribute
 returns-in-Err-clause-bad_attribute g c = λ text name form told says. ended_bad c.in-Err.status _ name (ended_so c.in-Err.status _ c.in-Err.ensures.cause) (c.in-Err.ensures.only text (Err name) told says)
 
