@@ -1,12 +1,12 @@
 -- What a reader has given after each of its steps.
-use Rattle.std.proofs.Common.{◌≡◌, ◌≢◌, ◌⊎◌, inl, inr, ◌<◌, ◌≤◌, ◌+◌, ℕ, Bool, true, false, List, [], ◌∷◌, ◌++◌, length, take, refl, sym, ap, ◌∙◌, subst, append_assoc, append-nil, length-append, arith, Option, Some, Ok}
+use Rattle.std.proofs.Common.{◌^◌, ◌≡◌, ◌≢◌, ◌⊎◌, inl, inr, ◌<◌, ◌≤◌, ◌+◌, ℕ, Bool, true, false, List, [], ◌∷◌, ◌++◌, length, take, refl, sym, ap, ◌∙◌, subst, append_assoc, append-nil, length-append, arith, Option, Some, Ok}
 use Rattle.std.proofs.lemmas.List.{take_at}
 use Rattle.std.specs.Str.Lines.{strip_carriage_return}
 use Rattle.tt_flow.specs.declared.lines.LineReader.{LineReader}
 use Rattle.tt_flow.specs.declared.lines.Input.TheVariants.{Open, Ended, Over}
 use Rattle.tt_flow.specs.declared.lines.LineRead.{LineRead}
 use Rattle.tt_flow.specs.declared.lines.LineRead.TheVariants.{Line, TooLong, End, ScriptTooLong}
-use Rattle.tt_flow.specs.Script.{measured, script_lines, ended_part, ended_lines}
+use Rattle.tt_flow.specs.Script.{measured, script_lines, script_most, ended_part, ended_lines}
 use Rattle.tt_flow.specs.PutsLine.{told_line, PutsLine}
 use Rattle.tt_flow.specs.Reading.{HasGiven, HasNoFeed, Reads, kept_bytes}
 use Rattle.tt_flow.specs.Pieces.{Took}
@@ -94,12 +94,13 @@ given_last old new no_feed empty some ended skipping taken input script left giv
     }
 
 -- nothing is left to give
-pub given_all : (reader : LineReader) → kept_bytes reader ≡ [] → reader.skipping ≡ false → reader.input ≡ Ended
-    → (script left : List ℕ) (given : List (Option (List ℕ))) → HasGiven script given reader left → script_lines script ≡ given
-given_all reader empty skipping ended script left given h =
+pub given_all : (reader : LineReader) → kept_bytes reader ≡ [] → reader.skipping ≡ false → reader.input ≡ Ended → reader.taken ≤ 2 ^ 30
+    → (script left : List ℕ) (given : List (Option (List ℕ))) → HasGiven script given reader left → (length script ≤ script_most) × (script_lines script ≡ given)
+given_all reader empty skipping ended most script left given h =
     let tail : h.tail ≡ [] = h.holds.whole ∙ ap (λ d. d ++ kept_bytes reader) (h.holds.none skipping) ∙ empty in
     let whole : script ≡ h.front ++ ([] ++ []) = h.whole ∙ ap (λ t. h.front ++ (t ++ left)) tail ∙ ap (λ l. h.front ++ l) (h.ended ended) in
-    ap script_lines (whole ∙ append-nil h.front) ∙ h.given
+    let all : script ≡ h.front = whole ∙ append-nil h.front in
+    (let long = ap (λ (l : List ℕ). length l) all in let count = h.count in omega (arith, long, count, most), ap script_lines all ∙ h.given)
 
 dropped_long : (skipping : Bool) (dropped kept : List ℕ) → (skipping ≡ true → 4098 ≤ length dropped) → (skipping ≡ false → 4098 ≤ length kept) → 4098 ≤ length (dropped ++ kept)
 dropped_long true dropped kept long some = let l : 4098 ≤ length dropped = long refl in omega (arith, length-append dropped kept)

@@ -45,7 +45,7 @@ HasGivenTold script lines reader left = (rest : List ℕ) × (left ≡ Some rest
 abbrev pub Reads : List ℕ → List (Option (List ℕ)) → Result LineRead Failed → List ℕ → LineReader → Option (List ℕ) → Type 0
 Reads script given (Ok Line) line reader left = HasGivenTold script (given ++ Some line ∷ []) reader left
 Reads script given (Ok TooLong) line reader left = HasGivenTold script (given ++ None ∷ []) reader left
-Reads script given (Ok End) line reader left = script_lines script ≡ given
+Reads script given (Ok End) line reader left = (length script ≤ script_most) × (script_lines script ≡ given)
 Reads script given (Ok ScriptTooLong) line reader left = (script_most < length script) × (ended_lines (take script_most script) ≡ given)
 Reads script given (Err failed) line reader left = (rest : List ℕ) × (left ≡ Some rest) × HasGiven script given reader rest × (ended_lines (take (length script - length rest) script) ≡ given)
 

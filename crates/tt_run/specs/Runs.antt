@@ -1,5 +1,5 @@
 -- What a run of a script writes, and what it leaves of the log files.
-use Rattle.std.specs.Prelude.{◌≡◌, ◌<◌, ◌-◌, ◌⊎◌, ℕ, List, [], ◌∷◌, ◌++◌, length, take, map, flat_map, filter, true, false, Option, Some, None, Result, Ok, Err}
+use Rattle.std.specs.Prelude.{◌≤◌, ◌≡◌, ◌<◌, ◌-◌, ◌⊎◌, ℕ, List, [], ◌∷◌, ◌++◌, length, take, map, flat_map, filter, true, false, Option, Some, None, Result, Ok, Err}
 use Rattle.std.specs.Io.KnownBytes.{Appends}
 use Rattle.tt_disk.specs.Volume.{Keeps}
 use Rattle.tt_disk.specs.declared.volume.Name.{Name}
@@ -43,7 +43,7 @@ pub record AreAnswered (start : State) (lines : List (Option (List ℕ))) (answe
 -- Which lines of a script were done when the run ended so. At a fault of the script each line whose line feed was taken was; at a
 -- fault of the sink the last one was answered in part.
 abbrev pub AreLinesDone : List ℕ → Option (List ℕ) → List (Option (List ℕ)) → Status → Type 0
-AreLinesDone script left lines Done = script_lines script ≡ lines
+AreLinesDone script left lines Done = (length script ≤ script_most) × (script_lines script ≡ lines)
 AreLinesDone script left lines ScriptTooLong = (script_most < length script) × (ended_lines (take script_most script) ≡ lines)
 AreLinesDone script left lines ScriptFault = (rest : List ℕ) × (left ≡ Some rest) × (ended_lines (take (length script - length rest) script) ≡ lines)
 AreLinesDone script left lines SinkFault = (more : List (Option (List ℕ))) × (script_lines script ≡ lines ++ more)
