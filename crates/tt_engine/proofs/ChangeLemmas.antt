@@ -174,7 +174,7 @@ filled_next t p key value s law = law.change t p Empty (Full kv (row_of key valu
 
 filled_trail : (log : Log) (now : Files) (t p : ℕ) (key value : ℤ) (s : State) → HasTrail log now (with_entry (Change t p Empty (Full kv (row_of key value))) s) → HasTrail log now (filled t p key value s)
 unfolding filled
-filled_trail log now t p key value s h = record { first = h.first; entries = h.entries; forced = h.forced; bounds = h.bounds; write = h.write; force = h.force; sizes = h.sizes }
+filled_trail log now t p key value s h = record { first = h.first; entries = h.entries; forced = h.forced; bounds = h.bounds; write = h.write; force = h.force; files = h.files; sizes = h.sizes }
 
 filled_kept : (t p : ℕ) (key value : ℤ) (s : State) → ((filled t p key value s).found ≡ s.found) × ((filled t p key value s).wish ≡ s.wish) × ((filled t p key value s).settings ≡ s.settings)
 unfolding filled with_entry

@@ -44,7 +44,7 @@ closed t s = record (with_entry (CommitEntry t) s) { own = at_one 1 None s.own }
 
 closed_trail : (log : Log) (now : Files) (t : ℕ) (s : State) → HasTrail log now (with_entry (CommitEntry t) s) → HasTrail log now (closed t s)
 unfolding closed
-closed_trail log now t s h = record { first = h.first; entries = h.entries; forced = h.forced; bounds = h.bounds; write = h.write; force = h.force; sizes = h.sizes }
+closed_trail log now t s h = record { first = h.first; entries = h.entries; forced = h.forced; bounds = h.bounds; write = h.write; force = h.force; files = h.files; sizes = h.sizes }
 
 pub closed_prefix : (least t : ℕ) (s : State) (may : Outcomes) → LeavesPrefix least (with_entry (CommitEntry t) s) may → LeavesPrefix least (closed t s) may
 unfolding closed
@@ -203,7 +203,7 @@ pub stands_settled : (e e' : Engine) (now : Files) (s : State) → Stands e now 
 stands_settled e e' now s h none log own next wish durable rows =
     let alone : IsAlone None s = subst (λ o. IsAlone o s) none h.alone in
     record {
-      log = subst (λ (l : Log). HasTrail l now (settled 1 s)) (sym log) (record { first = h.log.first; entries = h.log.entries; forced = h.log.forced; bounds = h.log.bounds; write = h.log.write; force = h.log.force; sizes = h.log.sizes });
+      log = subst (λ (l : Log). HasTrail l now (settled 1 s)) (sym log) (record { first = h.log.first; entries = h.log.entries; forced = h.log.forced; bounds = h.log.bounds; write = h.log.write; force = h.log.force; files = h.log.files; sizes = h.log.sizes });
       opened = h.opened;
       grown = h.grown;
       numbered = h.numbered;
@@ -228,7 +228,7 @@ stands_ended e e' now now' s h none own next wish durable rows log =
     let alone : IsAlone None s = subst (λ o. IsAlone o s) none h.alone in
     let after = settled 1 (all_forced s) in
     record {
-      log = record { first = log.first; entries = log.entries; forced = log.forced; bounds = log.bounds; write = log.write; force = log.force; sizes = log.sizes };
+      log = record { first = log.first; entries = log.entries; forced = log.forced; bounds = log.bounds; write = log.write; force = log.force; files = log.files; sizes = log.sizes };
       opened = h.opened;
       grown = h.grown;
       numbered = h.numbered;

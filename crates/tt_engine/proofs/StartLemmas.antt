@@ -41,10 +41,11 @@ use Rattle.tt_engine.specs.Starts.{IsRefusedSo, UnlessFailed, are_there, begun_o
 use Rattle.tt_engine.specs.declared.refusal.OpenRefusal.{OpenRefusal}
 use Rattle.tt_engine.specs.declared.refusal.OpenRefusal.TheVariants.{NoDatabase, Damaged, LogOut, Failed, NoMemory}
 use Rattle.tt_log.specs.declared.refusal.LogRefusal.TheVariants as log
+use Rattle.tt_disk.specs.declared.volume.Name.{Name}
 use Rattle.tt_disk.specs.declared.volume.Name.TheVariants.{Log as LogFile}
 use Rattle.tt_record.specs.Entries.{length_of}
 use Rattle.tt_record.specs.Places.{place_of}
-use Rattle.std.specs.Prelude.{IfErr, IsSome, IsTrue, OnOk, option_map, ◌↔◌}
+use Rattle.std.specs.Prelude.{IfErr, IsSome, is_some, IsTrue, OnOk, option_map, ◌↔◌}
 use Rattle.tt_engine.specs.OpeningLaws.{found_is, read_is, same_ok}
 use Rattle.tt_engine.proofs.PlaceLemmas.{any_here, any_found, any_row, in_cell, same_test}
 use Rattle.tt_engine.proofs.CommitLemmas.{none_filled}
@@ -68,14 +69,15 @@ more_none (Err e) = refl
 
 -- the log that was opened stands for the trail before the Mark
 pub opened_trail : (r : Recovered) (settings : Settings) (old now : Files) (es : Trail) (end : Position) → newest_first (forced_of r.log now) ≡ es → write_of r.log ≡ end → unforced r.log ≡ []
-    → r.log.first ≡ 0 → r.log.force ≡ write_of r.log → r.log.file_size ≡ settings.log_file_size → length r.log.buffer.items ≡ settings.log_buf_size → HasTrail r.log now (before_mark settings old es end)
-opened_trail r settings old now es end entries write none first force file_size buffer = record {
+    → r.log.first ≡ 0 → r.log.force ≡ write_of r.log → r.log.file_size ≡ settings.log_file_size → length r.log.buffer.items ≡ settings.log_buf_size → ((n : Name) → now n ≡ old n) → HasTrail r.log now (before_mark settings old es end)
+opened_trail r settings old now es end entries write none first force file_size buffer reads = record {
   first = first;
   entries = ap (λ w. newest_first (entries_in (with_more w (log_of r.log.first now)))) none ∙ ap newest_first (more_none (log_of r.log.first now)) ∙ entries;
   forced = entries ∙ sym (oldest_all es);
   bounds = (omega arith, omega arith);
   write = write;
   force = force ∙ write ∙ sym (none_new end);
+  files = λ k. ap is_some (reads (LogFile k));
   sizes = (file_size, buffer);
 }
   where
@@ -237,6 +239,7 @@ pub record IsReady (settings : Settings) (old mid : Files) (r : Recovered) (e : 
   pub first : r.log.first ≡ 0
   pub force : r.log.force ≡ write_of r.log
   pub sizes : (r.log.file_size ≡ settings.log_file_size) × (length r.log.buffer.items ≡ settings.log_buf_size)
+  pub reads : (n : Name) → mid n ≡ old n
 
 abbrev entries_of_log : Recovered → Files → Trail
 entries_of_log r now = newest_first (forced_of r.log now)
@@ -250,7 +253,7 @@ pub mark_ready : (settings : Settings) (old mid : Files) (r : Recovered) (e : En
 mark_ready settings old mid r e ready found is =
     subst (λ (l : Log). HasTrail l mid (opened settings found (are_there old) no_sets)) (sym ready.over.log)
     (subst (λ (f : Found). HasTrail r.log mid (opened settings f (are_there old) no_sets)) (made_of settings old mid r e ready found is)
-    (opened_trail r settings old mid (entries_of_log r mid) (write_of r.log) refl refl ready.recovered.none ready.first ready.force ready.sizes.0 ready.sizes.1))
+    (opened_trail r settings old mid (entries_of_log r mid) (write_of r.log) refl refl ready.recovered.none ready.first ready.force ready.sizes.0 ready.sizes.1 ready.reads))
 
 pub mark_stands : (settings : Settings) (old mid now : Files) (r : Recovered) (e e' : Engine) → IsReady settings old mid r e → AreInOrder r.rows.items → (found : Found) → opening old ≡ Ok found
     → HasTrail e'.log now (with_entry Mark (opened settings found (are_there old) no_sets)) → e'.durable_commits ≡ e.durable_commits → e'.next ≡ e.next → e'.own ≡ e.own → e'.wish ≡ e.wish → e'.rows ≡ e.rows

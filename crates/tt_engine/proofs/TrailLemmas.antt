@@ -1,11 +1,12 @@
 -- One more entry in the log is one more in the trail.
 use Rattle.std.proofs.Common.{◌≡◌, ◌⊎◌, inl, inr, ◌≤◌, ◌+◌, ◌-◌, ◌||◌, ◌&&◌, ◌==◌, ◌∙◌, ℕ, suc, nat_le, nat_lt, not, Bool, true, false, List, [], ◌∷◌, ◌++◌, length, take, drop, sum_by, Option, Some, None, Result, Ok, Err, if◌then◌else◌, refl, sym, ap, subst, length-append, arith}
-use Rattle.std.specs.Prelude.{IsOk}
+use Rattle.std.specs.Prelude.{IsOk, is_some, nat_eq}
 use Rattle.std.proofs.lemmas.Bool.{eqb-true, or_cases}
 use Rattle.std.proofs.lemmas.Option.{same_Some}
 use Rattle.std.proofs.lemmas.List.{take-append-drop}
 use Rattle.std.proofs.lemmas.List.Sums.{sum_by-append, sum_by-cons}
 use Rattle.tt_disk.specs.declared.volume.Name.{Name}
+use Rattle.tt_disk.specs.declared.volume.Name.TheVariants.{Log as LogFile}
 use Rattle.tt_value.specs.declared.position.Position.{Position}
 use Rattle.tt_record.specs.declared.entry.Entry.{Entry}
 use Rattle.tt_record.specs.Entries.{IsEntry, length_of}
@@ -15,7 +16,7 @@ use Rattle.tt_log.specs.declared.log.Log.{Log}
 use Rattle.tt_log.specs.declared.refusal.LogRefusal.{LogRefusal}
 use Rattle.tt_log.specs.Lengths.{total}
 use Rattle.tt_log.specs.Walk.{Files, Found, log_of, placed, with_more, is_at_or_next}
-use Rattle.tt_log.specs.Logs.{IsOpen, LeavesForced, LeavesForcedOrAll, Gave, MayLeave, entries_in, forced_of, trail_of, unforced, walk_end, write_of, moves, begins, waiting_bytes}
+use Rattle.tt_log.specs.Logs.{AddsFile, AddsNone, IsOpen, LeavesForced, LeavesForcedOrAll, Gave, MayLeave, entries_in, forced_of, trail_of, unforced, walk_end, write_of, moves, begins, waiting_bytes}
 use Rattle.tt_model.specs.Trail.{Trail, Placed, oldest, placed_length, trail_end}
 use Rattle.tt_model.specs.Forced.{begins_file, forces_earlier, forced_for, unforced_length}
 use Rattle.tt_model.specs.State.{State, trail, write_position, force_position, with_entry, all_forced, placed as placed_in}
@@ -159,6 +160,7 @@ pub record Added (log log' : Log) (now now' : Files) (e : Entry) (at : Position)
   pub first : log'.first ≡ log.first
   pub size : log'.file_size ≡ log.file_size
   pub buffer : length log'.buffer.items ≡ length log.buffer.items
+  pub files : AddsFile at.file now now'
 
 if_newest : (m : Bool) (a b : List (Position × Entry)) → newest_first (if m then a else b) ≡ (if m then newest_first a else newest_first b)
 if_newest true a b = refl
@@ -202,6 +204,10 @@ still_trail log log' now now' may s e at o h a =
           ∙ ap (λ (l : Trail). oldest next.forced l) (sym (trail_behind e s));
       bounds = (subst (λ (k : ℕ). length s.found.entries ≤ k) (sym forced) bounds.0, still_below next.forced s e (moved m t s.forced) forced bounds.1);
       write = a.write ∙ ap (λ (p : Position). end_of p (length_of e)) is_at ∙ written e s;
+      files = λ k.
+          a.files k
+          ∙ ap (λ (p : Position). if nat_eq k p.file then true else is_some (now (LogFile k))) is_at
+          ∙ ap (λ (b : Bool). if nat_eq k ((placed_in e s).at.file) then true else b) (h.files k);
       force = a.force ∙ forced_end m s e (write_of log) log.force h.write h.force h.bounds.0 h.bounds.1 ∙ ap (λ (k : ℕ). end_of_first k next) (sym forced);
       sizes = (a.size ∙ h.sizes.0, a.buffer ∙ h.sizes.1);
     }
@@ -308,15 +314,16 @@ prefix_more least s e may low leaves files left =
 
 pub all_trail : (log log' : Log) (now now' : Files) (s : State) → HasTrail log now s → trail_of log' now' ≡ trail_of log now → forced_of log' now' ≡ trail_of log now
     → log'.force ≡ write_of log → write_of log' ≡ write_of log → log'.first ≡ log.first → log'.file_size ≡ log.file_size → length log'.buffer.items ≡ length log.buffer.items
-    → HasTrail log' now' (all_forced s)
+    → AddsNone now now' → HasTrail log' now' (all_forced s)
 unfolding all_forced
-all_trail log log' now now' s h all forced force write first size buffer = record {
+all_trail log log' now now' s h all forced force write first size buffer files = record {
   first = first ∙ h.first;
   entries = ap newest_first all ∙ h.entries;
   forced = ap newest_first forced ∙ h.entries ∙ sym (oldest_all (trail s));
   bounds = (omega (arith, h.bounds.0, h.bounds.1), omega arith);
   write = write ∙ h.write;
   force = force ∙ h.write ∙ sym (end_all s);
+  files = λ k. files k ∙ h.files k;
   sizes = (size ∙ h.sizes.0, buffer ∙ h.sizes.1);
 }
 

@@ -88,3 +88,7 @@ pub record LeavesLine (request : Request) (s : State) (may : Name → Option (Li
 -- The line forces nothing more, and begins no file.
 pub record IsQuietLine (request : Request) (s : State) : Type 0 where
   pub quiet : IsQuiet s ((answer request s).1)
+
+-- The line forces more, or begins a file.
+pub record IsMovingLine (request : Request) (s : State) : Type 0 where
+  pub moves : ¬ (IsQuiet s ((answer request s).1))

@@ -1,6 +1,7 @@
 -- The log as the trail of a state: what its files and its buffer have, and what a crash leaves of it.
-use Rattle.std.specs.Prelude.{◌≡◌, ◌⊎◌, ◌≤◌, ◌+◌, ℕ, List, length, Option, Ok}
+use Rattle.std.specs.Prelude.{◌≡◌, ◌⊎◌, ◌≤◌, ◌+◌, ℕ, List, length, is_some, Option, Ok}
 use Rattle.tt_disk.specs.declared.volume.Name.{Name}
+use Rattle.tt_disk.specs.declared.volume.Name.TheVariants.{Log as LogFile}
 use Rattle.tt_value.specs.declared.position.Position.{Position}
 use Rattle.tt_record.specs.Places.{position}
 use Rattle.tt_log.specs.declared.log.Log.{Log}
@@ -10,8 +11,12 @@ use Rattle.tt_model.specs.Trail.{oldest, trail_end}
 use Rattle.tt_model.specs.State.{State, trail, new_among, write_position, force_position}
 use Rattle.tt_recover.specs.Opening.{newest_first}
 
--- The log stands for the trail of a state: with its buffer it has all entries, its files have the forced ones, and its positions and
--- sizes are the state's.
+-- the log files that are there are those of the state
+abbrev pub HasFiles : State → Files → Type 0
+HasFiles s files = (k : ℕ) → is_some (files (LogFile k)) ≡ s.files k
+
+-- The log stands for the trail of a state: with its buffer it has all entries, its files have the forced ones and are those that are
+-- there, and its positions and sizes are the state's.
 pub record HasTrail (log : Log) (now : Files) (s : State) : Type 0 where
   pub first : log.first ≡ 0
   pub entries : newest_first (trail_of log now) ≡ trail s
@@ -19,6 +24,7 @@ pub record HasTrail (log : Log) (now : Files) (s : State) : Type 0 where
   pub bounds : (length s.found.entries ≤ s.forced) × (s.forced ≤ length (trail s))
   pub write : write_of log ≡ write_position s
   pub force : log.force ≡ force_position s
+  pub files : HasFiles s now
   pub sizes : (log.file_size ≡ s.settings.log_file_size) × (length log.buffer.items ≡ s.settings.log_buf_size)
 
 -- where the first n entries of a state's trail end; where none of them is new, the end that opening found

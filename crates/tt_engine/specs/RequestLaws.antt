@@ -1,10 +1,38 @@
--- The lines that the model of the whole database has in one word are done as it does them.
-use Rattle.std.proofs.Common.{◌≡◌, refl}
+-- The lines are done as the model of the whole database does them: four as they stand, `ttBookmark` where a checkpoint file is read from
+-- the log's beginning on, and an insert where its table is kv.
+use Rattle.std.proofs.Common.{◌≡◌, inl, inr, ◌∙◌, ℕ, ℤ, Bool, true, false, [], ◌∷◌, List, map, ◌++◌, codes, nat_lt, Option, Some, None, Ok, if◌then◌else◌, refl, sym, ap, ap₂, subst, arith}
+use Rattle.std.specs.Option.{option_or}
 use Rattle.tt_parse.specs.declared.command.Command.TheVariants as command
-use Rattle.tt_model.specs.State.{State}
-use Rattle.tt_model.specs.Step.{line}
-use Rattle.tt_engine.specs.declared.request.Request.TheVariants.{Commit, DurableCommit, Flush}
-use Rattle.tt_engine.specs.Requests.{answer}
+use Rattle.tt_parse.specs.declared.command.ColumnText.{ColumnText}
+use Rattle.tt_value.specs.Words.{big_endian}
+use Rattle.tt_value.specs.declared.TheConstants.{ROW_MAX}
+use Rattle.tt_value.specs.declared.value.ColumnType.TheVariants.{BigInt}
+use Rattle.tt_value.specs.declared.value.Value.TheVariants.{Int}
+use Rattle.tt_value.specs.declared.position.Position.{Position}
+use Rattle.tt_value.specs.declared.refusal.Refusal.{Refusal}
+use Rattle.tt_value.specs.declared.refusal.Refusal.TheVariants.{DuplicateKey, OutOfRange, TooWide}
+use Rattle.tt_value.specs.declared.reply.Hold.{Hold}
+use Rattle.tt_value.specs.declared.reply.Reply.{Reply}
+use Rattle.tt_value.specs.declared.reply.Reply.TheVariants.{Changed, Done, Positions, Refused as RefusedSo}
+use Rattle.tt_record.specs.Places.{position}
+use Rattle.tt_record.specs.declared.entry.Entry.TheVariants.{Commit as CommitEntry}
+use Rattle.tt_set.specs.declared.settings.Settings.{Settings}
+use Rattle.tt_log.specs.Walk.{Files}
+use Rattle.tt_model.specs.Committed.{Cells}
+use Rattle.tt_model.specs.Found.{Found}
+use Rattle.tt_model.specs.Meaning.{Meant, Makes, conflict, first_of, insert_into, is_out_of_range, key_name, no_room, refused_if, stored_length, unless, value_conflict, value_name, value_there}
+use Rattle.tt_model.specs.Tables.{Index, Table, rows_of, unique_of}
+use Rattle.tt_model.specs.Holds.{checkpoint_hold, holds_of, least_hold_of, least_of}
+use Rattle.tt_model.specs.Run.{begun}
+use Rattle.tt_model.specs.State.{State, bound, catalog, view, all_forced, cells_of, force_position, scan_held, trail, with_entry, write_position}
+use Rattle.tt_model.specs.Step.{commit_of, edit_length, end_length, forced_where, is_durable, line, made, made_in, no_number_for, no_place, number_for, settled, statement, unless_refused}
+use Rattle.tt_model.specs.Trail.{Trail, position_lt}
+use Rattle.tt_recover.specs.Opening.{opening}
+use Rattle.tt_engine.specs.OpeningLaws.{found_is}
+use Rattle.tt_engine.specs.Starts.{begun_over}
+use Rattle.tt_engine.specs.declared.request.Request.{Request}
+use Rattle.tt_engine.specs.declared.request.Request.TheVariants.{Bookmark, Commit, DurableCommit, Flush, Insert, Refused}
+use Rattle.tt_engine.specs.Requests.{Answers, answer, insert_edit, kv, row_of, sees_key}
 
 pub commit_is_the_line : (s : State) → answer Commit s ≡ line 1 command.Commit s
 unfolding line
@@ -17,3 +45,134 @@ flush_is_the_line s = refl
 pub durable_commit_is_the_line : (s : State) → answer DurableCommit s ≡ line 1 command.DurableCommit s
 unfolding line
 durable_commit_is_the_line s = refl
+
+-- ---- the least hold
+
+-- The first checkpoint file is read from the log's beginning on.
+abbrev pub IsReadFromOrigin : State → Type 0
+IsReadFromOrigin s = scan_held s 0 ≡ Some (position 0 0)
+
+origin_least : (q : Position) (b : Bool) → position_lt (position 0 0) q ≡ b → (if b then position 0 0 else q) ≡ position 0 0
+origin_least q true is = refl
+origin_least q false is = ap₂ position (let file : q.file ≡ 0 = grind (arith, is) in file) (let offset : q.offset ≡ 0 = grind (arith, is) in offset)
+
+held_first : (o : Option Position) (more : List Hold) (end : Position) → o ≡ Some (position 0 0) → least_hold_of end (checkpoint_hold 0 o ++ more) ≡ position 0 0
+held_first (Some p) more end is =
+    ap (λ (o : Option Position). least_hold_of end (checkpoint_hold 0 o ++ more)) is ∙ origin_least (least_of end (map (λ (h : Hold). h.at) more)) _ refl
+held_first None more end is = cc
+
+origin_hold : (scans : ℕ → Option Position) (places : ℕ) (cells : Cells) (t : Trail) (end : Position) → scans 0 ≡ Some (position 0 0) → least_hold_of end (holds_of scans places cells t) ≡ position 0 0
+unfolding holds_of
+origin_hold scans places cells t end is = held_first (scans 0) _ end is
+
+pub bookmark_is_the_line : (s : State) → IsReadFromOrigin s → answer Bookmark s ≡ line 1 command.Bookmark s
+unfolding line
+bookmark_is_the_line s is =
+    ap (λ (p : Position). (Positions (write_position s) (force_position s) p, s)) (sym (origin_hold (scan_held s) (bound s) (cells_of s) (trail s) (write_position s) is))
+
+-- A run begins so.
+pub begun_from_origin : (settings : Settings) (files : Files) (found : Found) → opening files ≡ Ok found → IsReadFromOrigin (begun_over settings files found)
+unfolding begun with_entry
+begun_from_origin settings files found is = subst (λ (f : Found). IsReadFromOrigin (begun_over settings files f)) (sym (found_is files found is)) refl
+
+-- No line changes that.
+
+insert_keeps : (o : Option Refusal) (key value : ℤ) (s : State) → scan_held ((unless_refused o (Changed 1, made_in 1 (number_for (s.own 1) s) (insert_edit key value ∷ []) s) s).1) 0 ≡ scan_held s 0
+unfolding with_entry
+insert_keeps None key value s = refl
+insert_keeps (Some refusal) key value s = refl
+
+durable_keeps : (d : Bool) (s : State) → scan_held (settled 1 (forced_where d s)) 0 ≡ scan_held s 0
+unfolding all_forced
+durable_keeps true s = refl
+durable_keeps false s = refl
+
+entry_keeps : (t : ℕ) (s : State) → scan_held (with_entry (CommitEntry t) s) 0 ≡ scan_held s 0
+unfolding with_entry
+entry_keeps t s = refl
+
+commit_keeps : (o : Option Refusal) (t : ℕ) (d : Bool) (s : State) → scan_held ((unless_refused o (Done, settled 1 (forced_where d (with_entry (CommitEntry t) s))) s).1) 0 ≡ scan_held s 0
+commit_keeps None t d s = durable_keeps d (with_entry (CommitEntry t) s) ∙ entry_keeps t s
+commit_keeps (Some refusal) t d s = refl
+
+own_keeps : (own : Option ℕ) (s : State) → scan_held ((commit_of 1 own s).1) 0 ≡ scan_held s 0
+own_keeps None s = durable_keeps (is_durable 1 s) s
+own_keeps (Some t) s = commit_keeps (no_place (end_length ∷ []) s) t (is_durable 1 s) s
+
+line_keeps : (request : Request) (s : State) → scan_held ((answer request s).1) 0 ≡ scan_held s 0
+unfolding all_forced
+line_keeps (Insert key value) s = by (sees_key key s)
+  where
+    by : (b : Bool) → scan_held ((if b then (RefusedSo DuplicateKey, s) else made 1 (insert_edit key value ∷ []) s).1) 0 ≡ scan_held s 0
+    by true = refl
+    by false = insert_keeps (option_or (no_number_for (s.own 1) s) (no_place (map edit_length (insert_edit key value ∷ [])) s)) key value s
+line_keeps Commit s = own_keeps (s.own 1) s
+line_keeps Flush s = refl
+line_keeps DurableCommit s = refl
+line_keeps Bookmark s = refl
+line_keeps (Refused refusal) s = refl
+
+pub line_from_origin : (request : Request) (s after : State) (reply : Reply) → Answers request s reply after → IsReadFromOrigin s → IsReadFromOrigin after
+line_from_origin request s after reply (inl (told, is)) first = ap (λ (t : State). scan_held t 0) is ∙ line_keeps request s ∙ first
+line_from_origin request s after reply (inr (takes, told, is)) first = ap (λ (t : State). scan_held t 0) is ∙ first
+
+-- ---- an insert
+
+abbrev pub whole_column : List ℕ → ColumnText
+whole_column name = record { name = name; kind = BigInt; required = true }
+
+-- The table kv, as a catalog would have it.
+abbrev pub kv_table : Table
+kv_table = record { id = kv; name = codes "kv"; columns = whole_column (codes "k") ∷ whole_column (codes "v") ∷ []; key = 0 ∷ [] }
+
+stored : (key value : ℤ) → stored_length (row_of key value) ≡ 19
+unfolding big_endian
+stored key value = refl
+
+-- the tests of an insert into kv, of which the numbers' ranges, the row's length, the key's holder, the key, the indexes and the room
+-- are open
+abbrev tested : ℤ → ℤ → State → Bool → Bool → ℕ → Option Refusal → Bool → List Index → Option Refusal → Meant
+tested key value s key_out value_out stored holder seen indexes room =
+    let row = row_of key value in
+    let rows = rows_of kv (bound s) (view 1 s) in
+    unless (first_of (
+    None
+    ∷ None
+    ∷ first_of (first_of (None ∷ None ∷ refused_if key_out OutOfRange ∷ []) ∷ first_of (None ∷ None ∷ refused_if value_out OutOfRange ∷ []) ∷ [])
+    ∷ refused_if (nat_lt ROW_MAX stored) (TooWide stored)
+    ∷ holder
+    ∷ refused_if seen DuplicateKey
+    ∷ first_of (map (λ i. first_of (value_conflict (s.own 1) (trail s) (value_name i row) ∷ value_there row None rows i ∷ [])) indexes)
+    ∷ room
+    ∷ [])) (Makes (insert_edit key value ∷ []))
+
+into_kv : (key value : ℤ) (s : State) → insert_into 1 s (Int key ∷ Int value ∷ []) (Some kv_table) ≡
+    tested key value s (is_out_of_range BigInt key) (is_out_of_range BigInt value) (stored_length (row_of key value)) (conflict (s.own 1) (trail s) (key_name kv_table (row_of key value))) (sees_key key s) (unique_of kv_table (catalog s)) (no_room 1 s)
+into_kv key value s = refl
+
+-- Where the numbers are in range, nobody else holds the key, kv has no unique index and there is room.
+pub record MayInsert (key value : ℤ) (s : State) : Type 0 where
+  pub key_in : is_out_of_range BigInt key ≡ false
+  pub value_in : is_out_of_range BigInt value ≡ false
+  pub free : conflict (s.own 1) (trail s) (key_name kv_table (row_of key value)) ≡ None
+  pub plain : unique_of kv_table (catalog s) ≡ []
+  pub room : no_room 1 s ≡ None
+
+all_tested : (key value : ℤ) (s : State) → MayInsert key value s → insert_into 1 s (Int key ∷ Int value ∷ []) (Some kv_table) ≡ tested key value s false false 19 None (sees_key key s) [] None
+all_tested key value s may =
+    let holder = conflict (s.own 1) (trail s) (key_name kv_table (row_of key value)) in
+    let indexes = unique_of kv_table (catalog s) in
+    into_kv key value s
+    ∙ ap (λ (b : Bool). tested key value s b (is_out_of_range BigInt value) (stored_length (row_of key value)) holder (sees_key key s) indexes (no_room 1 s)) may.key_in
+    ∙ ap (λ (b : Bool). tested key value s false b (stored_length (row_of key value)) holder (sees_key key s) indexes (no_room 1 s)) may.value_in
+    ∙ ap (λ (n : ℕ). tested key value s false false n holder (sees_key key s) indexes (no_room 1 s)) (stored key value)
+    ∙ ap (λ (o : Option Refusal). tested key value s false false 19 o (sees_key key s) indexes (no_room 1 s)) may.free
+    ∙ ap (λ (l : List Index). tested key value s false false 19 None (sees_key key s) l (no_room 1 s)) may.plain
+    ∙ ap (λ (o : Option Refusal). tested key value s false false 19 None (sees_key key s) [] o) may.room
+
+pub insert_is_the_statement : (key value : ℤ) (s : State) → MayInsert key value s → statement 1 (insert_into 1 s (Int key ∷ Int value ∷ []) (Some kv_table)) s ≡ answer (Insert key value) s
+insert_is_the_statement key value s may = ap (λ (m : Meant). statement 1 m s) (all_tested key value s may) ∙ by (sees_key key s)
+  where
+    by : (seen : Bool) → statement 1 (tested key value s false false 19 None seen [] None) s ≡ (if seen then (RefusedSo DuplicateKey, s) else made 1 (insert_edit key value ∷ []) s)
+    by true = refl
+    by false = refl

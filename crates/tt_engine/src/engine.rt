@@ -89,7 +89,7 @@ fn insert_entry(
 }
 
 impl Engine {
-    ghost use Rattle.tt_engine.specs.Engines.{Stands, Advances, AnswersSo, IsInsert, LeavesLine, IsQuietLine};
+    ghost use Rattle.tt_engine.specs.Engines.{Stands, Advances, AnswersSo, IsInsert, IsMovingLine, LeavesLine, IsQuietLine};
     ghost use Rattle.tt_engine.specs.LogTrail.{HasTrail};
     ghost use Rattle.tt_engine.specs.Starts.{IsStarted, IsRefusedSo, UnlessFailed, begun_over};
     ghost use Rattle.tt_set.specs.Attributes.{AreInRange};
@@ -282,6 +282,8 @@ impl Engine {
             → OnOk result (LeavesForced self.new.log (L.now logs.new) (L.may logs.new)) }
         ensures quiet { L.told → (s : State) (value : ℤ) → Stands self.old (L.now logs.old) s
             → IsInsert s self.old transaction key value entry.now → IsQuietLine (Insert key value) s → OnOk result (logs.new ≡ logs.old) }
+        ensures fails { L.told → (s : State) (value : ℤ) → Stands self.old (L.now logs.old) s
+            → IsInsert s self.old transaction key value entry.now → OnErr result (IsMovingLine (Insert key value) s) }
         ensures wanting { IfOk result (λ reply. reply ≡ RefusedSo NoMemory → logs.new ≡ logs.old) }
         ensures given { IfOk result IsGiven }
         ensures cause { HasCause (L.faults logs.old) (L.faults logs.new) result }
@@ -321,6 +323,8 @@ impl Engine {
             → OnOk result (LeavesForced self.new.log (L.now logs.new) (L.may logs.new)) }
         ensures quiet { L.told → (s : State) → Stands self.old (L.now logs.old) s → IsQuietLine (Insert key value) s
             → OnOk result (logs.new ≡ logs.old) }
+        ensures fails { L.told → (s : State) → Stands self.old (L.now logs.old) s
+            → OnErr result (IsMovingLine (Insert key value) s) }
         ensures wanting { IfOk result (λ reply. reply ≡ RefusedSo NoMemory → logs.new ≡ logs.old) }
         ensures given { IfOk result IsGiven }
         ensures cause { HasCause (L.faults logs.old) (L.faults logs.new) result }
@@ -361,6 +365,8 @@ impl Engine {
             → OnOk result (LeavesForced self.new.log (L.now logs.new) (L.may logs.new)) }
         ensures quiet { L.told → (s : State) → Stands self.old (L.now logs.old) s
             → IsQuiet s (settled 1 (forced_where (is_durable 1 s) s)) → OnOk result (logs.new ≡ logs.old) }
+        ensures fails { L.told → (s : State) → Stands self.old (L.now logs.old) s
+            → OnErr result (¬ (IsQuiet s (settled 1 (forced_where (is_durable 1 s) s)))) }
         ensures cause { HasCause (L.faults logs.old) (L.faults logs.new) result }
     {
         if !self.is_durable() {
@@ -389,6 +395,8 @@ impl Engine {
             → OnOk result (LeavesForced self.new.log (L.now logs.new) (L.may logs.new)) }
         ensures quiet { L.told → (s : State) → Stands self.old (L.now logs.old) s → IsQuietLine Commit s
             → OnOk result (logs.new ≡ logs.old) }
+        ensures fails { L.told → (s : State) → Stands self.old (L.now logs.old) s
+            → OnErr result (IsMovingLine Commit s) }
         ensures wanting { IfOk result (λ reply. reply ≡ RefusedSo NoMemory → logs.new ≡ logs.old) }
         ensures given { IfOk result IsGiven }
         ensures cause { HasCause (L.faults logs.old) (L.faults logs.new) result }
@@ -421,6 +429,8 @@ impl Engine {
             → OnOk result (LeavesForced self.new.log (L.now logs.new) (L.may logs.new)) }
         ensures quiet { L.told → (s : State) → Stands self.old (L.now logs.old) s → IsQuietLine Commit s
             → OnOk result (logs.new ≡ logs.old) }
+        ensures fails { L.told → (s : State) → Stands self.old (L.now logs.old) s
+            → OnErr result (IsMovingLine Commit s) }
         ensures wanting { IfOk result (λ reply. reply ≡ RefusedSo NoMemory → logs.new ≡ logs.old) }
         ensures given { IfOk result IsGiven }
         ensures cause { HasCause (L.faults logs.old) (L.faults logs.new) result }
@@ -448,6 +458,8 @@ impl Engine {
             → OnOk result (LeavesForced self.new.log (L.now logs.new) (L.may logs.new)) }
         ensures quiet { L.told → (s : State) → Stands self.old (L.now logs.old) s → IsQuietLine Flush s
             → OnOk result (logs.new ≡ logs.old) }
+        ensures fails { L.told → (s : State) → Stands self.old (L.now logs.old) s
+            → OnErr result (IsMovingLine Flush s) }
         ensures wanting { IfOk result (λ reply. reply ≡ RefusedSo NoMemory → logs.new ≡ logs.old) }
         ensures given { IfOk result IsGiven }
         ensures cause { HasCause (L.faults logs.old) (L.faults logs.new) result }
@@ -498,6 +510,8 @@ impl Engine {
             → OnOk result (LeavesForced self.new.log (L.now logs.new) (L.may logs.new)) }
         ensures quiet { L.told → (s : State) → Stands self.old (L.now logs.old) s → IsQuietLine request s
             → OnOk result (logs.new ≡ logs.old) }
+        ensures fails { L.told → (s : State) → Stands self.old (L.now logs.old) s
+            → OnErr result (IsMovingLine request s) }
         ensures wanting { IfOk result (λ reply. reply ≡ RefusedSo NoMemory → logs.new ≡ logs.old) }
         ensures given { IfOk result IsGiven }
         ensures cause { HasCause (L.faults logs.old) (L.faults logs.new) result }
@@ -534,6 +548,9 @@ impl Engine {
         ensures crash { L.told → (s : State) → Stands self.old (L.now logs.old) s
             → LeavesForced self.old.log (L.now logs.old) (L.may logs.old)
             → OnErr result (LeavesLine request s (L.may logs.new)) }
+
+        // A line that forces nothing more and begins no file has no call that could fail.
+        ensures fails { L.told → (s : State) → Stands self.old (L.now logs.old) s → OnErr result (IsMovingLine request s) }
 
         // Else just the forced entries, where it could leave no others before.
         ensures kept { L.told → LeavesForced self.old.log (L.now logs.old) (L.may logs.old)
@@ -576,6 +593,7 @@ impl Engine {
         ensures onward { L.told → (s : State) → Stands self.old (L.now logs.old) s → IsOnward s (all_forced s) }
         ensures quiet { L.told → (s : State) → Stands self.old (L.now logs.old) s → IsQuiet s (all_forced s)
             → OnOk result (logs.new ≡ logs.old) }
+        ensures fails { L.told → (s : State) → Stands self.old (L.now logs.old) s → OnErr result (¬ (IsQuiet s (all_forced s))) }
         ensures cause { HasCause (L.faults logs.old) (L.faults logs.new) result }
     {
         laws();

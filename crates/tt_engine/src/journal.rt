@@ -1,5 +1,5 @@
 // Entries added to the log, and their force.
-ghost use Rattle.std.specs.Prelude.{◌≡◌, false, OnOk, IsSome};
+ghost use Rattle.std.specs.Prelude.{◌≡◌, false, OnOk, OnErr, IsSome};
 ghost use Rattle.tt_disk.specs.Causes.{HasCause};
 ghost use Rattle.tt_record.specs.Entries.{length_of, IsEntry};
 ghost use Rattle.tt_record.specs.Places.{place_of};
@@ -26,9 +26,11 @@ pub(crate) fn add<V: Volume>(log: &mut Log, volume: &mut V, entry: &Entry) -> Re
         → LeavesPrefix s.forced (with_entry entry.now s) (V.may volume.new) }
     ensures kept { V.told → LeavesForced log.old (V.now volume.old) (V.may volume.old)
         → OnOk result (LeavesForced log.new (V.now volume.new) (V.may volume.new)) }
-    // An entry that forces nothing and begins no file makes no call.
+    // An entry that forces nothing and begins no file makes no call, and none fails.
     ensures quiet { V.told → (s : State) → HasTrail log.old (V.now volume.old) s → IsQuiet s (with_entry entry.now s)
         → OnOk result (volume.new ≡ volume.old) }
+    ensures fails { V.told → (s : State) → HasTrail log.old (V.now volume.old) s
+        → OnErr result (¬ (IsQuiet s (with_entry entry.now s))) }
     ensures cause { HasCause (V.faults volume.old) (V.faults volume.new) result }
 {
     match log.append(volume, entry) {
@@ -50,6 +52,7 @@ pub(crate) fn force<V: Volume>(log: &mut Log, volume: &mut V) -> Result<(), Fail
         → OnOk result (LeavesForced log.new (V.now volume.new) (V.may volume.new)) }
     ensures quiet { V.told → (s : State) → HasTrail log.old (V.now volume.old) s → IsQuiet s (all_forced s)
         → OnOk result (volume.new ≡ volume.old) }
+    ensures fails { V.told → (s : State) → HasTrail log.old (V.now volume.old) s → OnErr result (¬ (IsQuiet s (all_forced s))) }
     ensures cause { HasCause (V.faults volume.old) (V.faults volume.new) result }
 {
     match log.force(volume) {

@@ -21,3 +21,4 @@ pub mod Scanning
 pub mod Giving
 pub mod Standing
 pub mod Examples
+pub mod Presence

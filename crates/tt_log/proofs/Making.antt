@@ -1,4 +1,4 @@
--- A first file that is no longer than a new one has no entries.
+-- A first file that is no longer than a new one is the empty log.
 use Rattle.std.proofs.Common.{◌≡◌, ◌⊎◌, inl, inr, ◌≤◌, ◌<◌, ◌-◌, ◌+◌, ◌∙◌, ℕ, zero, suc, Bool, true, false, List, [], ◌∷◌, length, take, Option, Some, None, Result, Ok, Err, if◌then◌else◌, refl, sym, ap, subst, arith}
 use Rattle.tt_disk.specs.Volume.{bytes_of, size_of}
 use Rattle.tt_gate.specs.Standing.{LeavesAtMost}
@@ -13,9 +13,8 @@ use Rattle.tt_log.specs.declared.refusal.LogRefusal.{LogRefusal}
 use Rattle.tt_log.specs.declared.refusal.LogRefusal.TheVariants.{Gap, BadBatch}
 use Rattle.tt_record.specs.Places.{position}
 use Rattle.tt_log.specs.Lengths.{total}
-use Rattle.tt_log.specs.Logs.{entries_in}
 use Rattle.tt_gate.specs.Gate.{whole_bodies}
-use Rattle.tt_log.specs.Walk.{Files, Found, Part, after_turn, batch_read, before, bodies_read, chosen, file_read, in_front, is_last, log_header, log_of, no_switch, offset_behind, on_part, part_of, placed, same_bytes, turns, walk}
+use Rattle.tt_log.specs.Walk.{Files, Found, Part, after_turn, batch_read, before, bodies_read, chosen, file_read, in_front, is_last, log_header, log_of, no_switch, nothing, offset_behind, on_part, part_of, placed, same_bytes, turns, walk}
 use Rattle.tt_log.proofs.Crash.{Outcomes}
 
 abbrev IsBad : Part → Type 0
@@ -75,18 +74,26 @@ short_file : (o : Option (List ℕ)) → size_of o ≤ 17 → (p : List Entry ×
 unfolding file_read
 short_file o short p read = short_part o (gated o) refl short p read
 
-short_on : (part : Part) (more : Result Found LogRefusal) (found : Found) → ((p : List Entry × Bool) → part ≡ Ok p → (p.0 ≡ []) × (p.1 ≡ false)) → on_part 0 part more ≡ Ok found → found.entries ≡ []
+abbrev ok_found : Found → Result Found LogRefusal
+ok_found found = Ok found
+
+same_found : (a b : Found) → ok_found a ≡ ok_found b → a ≡ b
+same_found a b is = cc
+
+short_on : (part : Part) (more : Result Found LogRefusal) (found : Found) → ((p : List Entry × Bool) → part ≡ Ok p → (p.0 ≡ []) × (p.1 ≡ false)) → on_part 0 part more ≡ Ok found → found ≡ nothing
 short_on (Ok p) more found none is =
     let parts = none p refl in
-    sym (ap (λ r. entries_in r) (sym (ap (λ b. if b then in_front (placed 0 0 p.0) more else Ok (record { entries = placed 0 0 p.0; end = position 0 (total p.0) })) parts.1) ∙ is))
-    ∙ ap (placed 0 0) parts.0
+    same_found found nothing (
+    sym is
+    ∙ ap (λ b. if b then in_front (placed 0 0 p.0) more else ok_found (record { entries = placed 0 0 p.0; end = position 0 (total p.0) })) parts.1
+    ∙ ap (λ es. ok_found (record { entries = placed 0 0 es; end = position 0 (total es) })) parts.0)
 short_on (Err e) more found none is = cc
 
-short_walk : (m : ℕ) (files : Files) (found : Found) → 0 < m → size_of (files (Log 0)) ≤ 17 → walk m 0 files ≡ Ok found → found.entries ≡ []
+short_walk : (m : ℕ) (files : Files) (found : Found) → 0 < m → size_of (files (Log 0)) ≤ 17 → walk m 0 files ≡ Ok found → found ≡ nothing
 short_walk zero files found some short is = absurd (omega (arith, some))
 short_walk (suc m) files found some short is = short_on (file_read 0 (files (Log 0))) (walk m (0 + 1) files) found (short_file (files (Log 0)) short) is
 
-pub short_log : (files : Files) (found : Found) → size_of (files (Log 0)) ≤ 17 → log_of 0 files ≡ Ok found → found.entries ≡ []
+pub short_log : (files : Files) (found : Found) → size_of (files (Log 0)) ≤ 17 → log_of 0 files ≡ Ok found → found ≡ nothing
 unfolding log_of
 short_log files found short is = short_walk (1000000 - 0) files found (omega arith) short is
 

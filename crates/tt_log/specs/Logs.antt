@@ -1,5 +1,5 @@
 -- What a crash leaves of a log, and what a Log stands for.
-use Rattle.std.specs.Prelude.{◌≡◌, ◌⊎◌, ◌<◌, ◌≤◌, ◌+◌, ◌&&◌, false, ℕ, List, [], take, length, nat_le, nat_lt, not, ◌||◌, Bool, true, if◌then◌else◌, Option, Some, None, Result, Ok, Err, IsOk}
+use Rattle.std.specs.Prelude.{◌≡◌, ◌⊎◌, ◌<◌, ◌≤◌, ◌+◌, ◌&&◌, false, ℕ, List, [], take, length, nat_eq, nat_le, nat_lt, not, is_some, ◌||◌, Bool, true, if◌then◌else◌, Option, Some, None, Result, Ok, Err, IsOk}
 use Rattle.tt_disk.specs.declared.volume.Name.{Name}
 use Rattle.tt_disk.specs.declared.volume.Name.TheVariants.{Ds, Log as LogFile, SetImage, SetLog}
 use Rattle.tt_gate.specs.Standing.{IsReady}
@@ -120,6 +120,14 @@ LeavesAll log now may = (files : Files) → MayLeave may files → Gave (log_of 
 -- the file behind the current one is untouched; or all entries are forced, where a crash before could leave just the forced ones
 abbrev pub ForcedBeforeNextFile : Log → Files → Files → (Name → Option (List ℕ) → Type 0) → (Name → Option (List ℕ) → Type 0) → Type 0
 ForcedBeforeNextFile log old new may_old may_new = IsUntouched (LogFile (log.number + 1)) old new may_old may_new ⊎ (LeavesForced log old may_old → LeavesAll log old may_new)
+
+-- the log files that are there: those that were, and one with this number
+abbrev pub AddsFile : ℕ → Files → Files → Type 0
+AddsFile n old new = (k : ℕ) → is_some (new (LogFile k)) ≡ (if nat_eq k n then true else is_some (old (LogFile k)))
+
+-- the same log files are there
+abbrev pub AddsNone : Files → Files → Type 0
+AddsNone old new = (k : ℕ) → is_some (new (LogFile k)) ≡ is_some (old (LogFile k))
 
 -- the name of a log file with a number in this range
 abbrev pub is_between : ℕ → ℕ → Name → Bool

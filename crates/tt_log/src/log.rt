@@ -1,6 +1,6 @@
 // The log: a buffer of entries before numbered files.
 ghost use Rattle.std.specs.Prelude.{◌≡◌, ◌+◌, ◌<◌, ◌≤◌, ◌∷◌, ◌++◌, ◌↔◌, [], length, take, if◌then◌else◌, true, false};
-ghost use Rattle.std.specs.Prelude.{OnOk, IfOk, IsSome, IsTrue, Some};
+ghost use Rattle.std.specs.Prelude.{OnOk, OnErr, IfOk, IsSome, IsTrue, Some};
 ghost use Rattle.tt_disk.specs.declared.volume.Name.TheVariants.{Log as LogFile};
 ghost use Rattle.tt_disk.specs.Causes.{HasCause};
 ghost use Rattle.tt_disk.specs.Laws.{OnlyAt};
@@ -93,7 +93,7 @@ impl Log {
     ghost use Rattle.tt_log.specs.Logs.{entries_in, trail_of, forced_of, moves, room_made, unforced, waiting_bytes, write_of};
     ghost use Rattle.tt_log.specs.Logs.{MayLeave, IsOpen, IsWhole, LeavesThis, LeavesEither, LeavesTurned};
     ghost use Rattle.tt_log.specs.Logs.{LeavesForced, LeavesForcedOrAll, ForcedBeforeNextFile, GoneInOrder};
-    ghost use Rattle.tt_log.specs.Logs.{IsUntouched, OnlyTwo, OnlyBetween};
+    ghost use Rattle.tt_log.specs.Logs.{AddsFile, AddsNone, IsUntouched, OnlyTwo, OnlyBetween};
 
     /// Removes every log file and makes an empty first one.
     pub fn make<V: Volume>(volume: &mut V) -> Result<(), Failed>
@@ -101,10 +101,10 @@ impl Log {
         ensures settled { V.told → OnOk result (LeavesThis 0 (Ok nothing) (V.may volume.new)) }
         ensures others { V.told → OnlyBetween 0 (2 ^ 32) (V.now volume.old) (V.now volume.new)
             (V.may volume.old) (V.may volume.new) }
-        // However it ends, a crash leaves no log with an entry, provided that before the call it could leave a first file
-        // no longer than a new one has.
+        // However it ends, a crash leaves no log but the empty one, provided that before the call it could leave a first file
+        // no longer than a new one.
         ensures short { V.told → LeavesAtMost 17 (V.may volume.old (LogFile 0)) → (files : Files) → MayLeave (V.may volume.new) files
-            → (found : Found) → log_of 0 files ≡ Ok found → found.entries ≡ [] }
+            → (found : Found) → log_of 0 files ≡ Ok found → found ≡ nothing }
         ensures alone { V.told → OnOk result ((k : ℕ) → 0 < k → k < 2 ^ 32 → V.now volume.new (LogFile k) ≡ None) }
         ensures cause { HasCause (V.faults volume.old) (V.faults volume.new) result }
     {
@@ -267,6 +267,7 @@ impl Log {
         ensures others { V.told → OnlyAt (LogFile self.old.number) (V.now volume.old) (V.now volume.new)
             (V.may volume.old) (V.may volume.new) }
         ensures quiet { self.old.used ≡ 0 → volume.new ≡ volume.old }
+        ensures fails { OnErr result (0 < self.old.used) }
         ensures cause { HasCause (V.faults volume.old) (V.faults volume.new) result }
     {
         let end = self.write_position();
@@ -282,7 +283,7 @@ impl Log {
         Ok(())
     }
 
-    /// Forces the log: writes what isn't forced yet. Where all is, there is no call on the volume.
+    /// Forces the log: writes what isn't forced yet. Where all is, there is no call on the volume, and none fails.
     pub fn force<V: Volume>(&mut self, volume: &mut V) -> Result<(), Failed>
         requires open { V.told → IsOpen self.old (V.now volume.old) (V.may volume.old) }
         ensures open { V.told → OnOk result (IsOpen self.new (V.now volume.new) (V.may volume.new)) }
@@ -303,7 +304,9 @@ impl Log {
             × (length self.new.buffer.items ≡ length self.old.buffer.items) }
         ensures others { V.told → OnlyAt (LogFile self.old.number) (V.now volume.old) (V.now volume.new)
             (V.may volume.old) (V.may volume.new) }
+        ensures files { V.told → OnOk result (AddsNone (V.now volume.old) (V.now volume.new)) }
         ensures quiet { waiting_bytes self.old ≡ 0 → volume.new ≡ volume.old }
+        ensures fails { OnErr result (0 < waiting_bytes self.old) }
         ensures cause { HasCause (V.faults volume.old) (V.faults volume.new) result }
     {
         self.write_out(volume)?;
@@ -369,7 +372,9 @@ impl Log {
             (V.may volume.old) (V.may volume.new) }
         ensures others { V.told → OnlyTwo (LogFile self.old.number) (LogFile (self.old.number + 1))
             (V.now volume.old) (V.now volume.new) (V.may volume.old) (V.may volume.new) }
+        ensures files { V.told → OnOk result (AddsFile ((write_of self.new).file) (V.now volume.old) (V.now volume.new)) }
         ensures quiet { moves self.old entry.now ≡ false → volume.new ≡ volume.old }
+        ensures fails { OnErr result (moves self.old entry.now ≡ true) }
         ensures cause { HasCause (V.faults volume.old) (V.faults volume.new) result }
     {
         let length = entry_length(entry);
@@ -415,7 +420,7 @@ impl Log {
     }
 
     /// Adds an entry, and answers its position. Where it begins no new file and the buffer has room for it, there is no
-    /// call on the volume.
+    /// call on the volume, and none fails.
     pub fn append<V: Volume>(&mut self, volume: &mut V, entry: &Entry) -> Result<Position, Failed>
         requires plain { is_switch entry.now ≡ false }
         requires entry { IsEntry entry.now }
@@ -446,7 +451,11 @@ impl Log {
             (V.may volume.old) (V.may volume.new) }
         ensures others { V.told → OnlyTwo (LogFile self.old.number) (LogFile (self.old.number + 1))
             (V.now volume.old) (V.now volume.new) (V.may volume.old) (V.may volume.new) }
+
+        // The log files that are there are those that were, and the one that the entry lies in.
+        ensures files { V.told → IfOk result (λ at. AddsFile at.file (V.now volume.old) (V.now volume.new)) }
         ensures quiet { moves self.old entry.now ≡ false → volume.new ≡ volume.old }
+        ensures fails { OnErr result (moves self.old entry.now ≡ true) }
         ensures cause { HasCause (V.faults volume.old) (V.faults volume.new) result }
     {
         self.make_room(volume, entry)?;

@@ -14,15 +14,17 @@ use Rattle.tt_log.specs.Logs.{LeavesThis, MayLeave}
 use Rattle.tt_log.proofs.Following.{log_step}
 use Rattle.tt_model.specs.Found.{Found}
 use Rattle.tt_model.specs.State.{State}
-use Rattle.tt_recover.specs.Opening.{found_in, newest_first, opening}
+use Rattle.tt_record.specs.Places.{position}
+use Rattle.tt_model.specs.Trail.{Trail}
+use Rattle.tt_recover.specs.Opening.{found_by, found_in, newest_first, opening}
 use Rattle.tt_engine.specs.OnwardLaws.{still_before}
-use Rattle.tt_engine.specs.OpeningLaws.{database_opens, read_is}
+use Rattle.tt_engine.specs.OpeningLaws.{database_opens, found_is, read_is}
 use Rattle.tt_engine.specs.Prefixes.{IsSinceOpening, IsStill}
 use Rattle.tt_engine.specs.Starts.{database, opened_in}
 use Rattle.tt_engine.specs.declared.refusal.OpenRefusal.{OpenRefusal}
 use Rattle.tt_run.specs.declared.status.Status.{Status}
 use Rattle.tt_run.specs.declared.status.Status.TheVariants.{Done, ScriptFault, AttributesFault, SinkFault, VolumeFault, NoMemory, Usage, Damaged, Exists, NoDatabase, BadAttribute, LogOut, ScriptTooLong}
-use Rattle.tt_run.specs.Openings.{EndedEarly, HasNewDatabase, IsBeforeLines, IsCreated, IsFaultOf, IsOpened, IsScriptRunEnd, LeavesNoEntry, LeavesNoLog, mark_place, new_database}
+use Rattle.tt_run.specs.Openings.{EndedEarly, HasNewDatabase, IsBeforeLines, IsCreated, IsFaultOf, IsOpened, IsScriptRunEnd, LeavesNoOther, LeavesNoLog, mark_place, new_database}
 use Rattle.tt_run.specs.Runs.{IsRun, IsRunEnd}
 use Rattle.tt_run.proofs.RunLemmas.{Outcomes, left_from}
 
@@ -85,7 +87,7 @@ pub made_done : (o : Option (List ℕ)) (now : Files) (may : Outcomes) → o ≡
 made_done None now may none made = (made, made)
 made_done (Some f) now may none made = cc
 
-pub none_left : (may : Outcomes) → LeavesNoLog may → (files : Files) → MayLeave may files → (found : Found) → opening files ≡ Ok found → found.entries ≡ []
+pub none_left : (may : Outcomes) → LeavesNoLog may → (files : Files) → MayLeave may files → (found : Found) → opening files ≡ Ok found → found ≡ new_database
 none_left may none files left found is =
     let read = read_is files found is in
     let refused : log_of 0 files ≡ Err (Gap 0) = no_file files (none (files (LogFile 0)) (left (LogFile 0))) in
@@ -93,16 +95,19 @@ none_left may none files left found is =
     cc
 
 -- where nothing was made
-pub no_entry_kept : (old now : Files) (may may' : Outcomes) → Keeps old now may may' → LeavesNoLog may → LeavesNoEntry may'
-no_entry_kept old now may may' keeps none files left found is = none_left may none files (λ name. keeps.crash name (files name) (left name)) found is
+pub no_other_kept : (old now : Files) (may may' : Outcomes) → Keeps old now may may' → LeavesNoLog may → LeavesNoOther may'
+no_other_kept old now may may' keeps none files left found is = none_left may none files (λ name. keeps.crash name (files name) (left name)) found is
 
 -- where a log was to be made
-pub no_entry_made : (old now : Files) (may may' may'' : Outcomes) → Keeps old now may may'
-    → (LeavesAtMost 17 (may' (LogFile 0)) → (files : Files) → MayLeave may'' files → (read : Read) → log_of 0 files ≡ Ok read → read.entries ≡ []) → LeavesNoLog may → LeavesNoEntry may''
-no_entry_made old now may may' may'' keeps short none files left found is =
+pub no_other_made : (old now : Files) (may may' may'' : Outcomes) → Keeps old now may may'
+    → (LeavesAtMost 17 (may' (LogFile 0)) → (files : Files) → MayLeave may'' files → (read : Read) → log_of 0 files ≡ Ok read → read ≡ nothing) → LeavesNoLog may → LeavesNoOther may''
+no_other_made old now may may' may'' keeps short none files left found is =
     let read = read_is files found is in
     let few : LeavesAtMost 17 (may' (LogFile 0)) = λ c at. subst (λ (o : Option (List ℕ)). size_of o ≤ 17) (sym (none c (keeps.crash (LogFile 0) c at))) (omega arith) in
-    sym read.entries ∙ ap newest_first (short few files left read.read read.is)
+    let made = short few files left read.read read.is in
+    let entries : found.entries ≡ [] = sym read.entries ∙ ap (λ (r : Read). newest_first r.entries) made in
+    let end : found.end ≡ position 0 0 = sym read.end ∙ ap (λ (r : Read). r.end) made in
+    found_is files found is ∙ ap (λ (es : Trail). found_by es found.end) entries ∙ ap (λ (p : Position). found_by [] p) end
 
 -- ---- how a run may end
 

@@ -22,6 +22,7 @@ use Rattle.tt_model.specs.State.{State, all_forced}
 use Rattle.tt_engine.specs.declared.engine.Engine.{Engine}
 use Rattle.tt_engine.specs.declared.request.Request.{Request}
 use Rattle.tt_engine.specs.Engines.{Stands}
+use Rattle.tt_engine.specs.LogTrail.{HasFiles, IsQuiet}
 use Rattle.tt_engine.specs.OnwardLaws.{same_onward, still_before}
 use Rattle.tt_engine.specs.Prefixes.{IsOnward, IsSinceOpening, IsStill, LogsAreSettled, OpensForced}
 use Rattle.tt_engine.specs.Requests.{Answers, answer}
@@ -141,8 +142,8 @@ pub keeps_same : (now : Files) (may : Outcomes) → Keeps now now may may
 keeps_same now may = record { reads = λ n. refl; crash = λ n c left. left }
 
 -- what is left where nothing was done
-pub left_here : (s : State) (settled : Type 0) (now : Files) (may : Outcomes) → OpensForced s now → (settled → LogsAreSettled now may) → IsLeft s settled now now may may
-left_here s settled now may opens again = record { opens = opens; settled_again = again; still = λ still. keeps_same now may }
+pub left_here : (s : State) (settled : Type 0) (now : Files) (may : Outcomes) → HasFiles s now → OpensForced s now → (settled → LogsAreSettled now may) → IsLeft s settled now now may may
+left_here s settled now may files opens again = record { files = files; opens = opens; settled_again = again; still = λ still. keeps_same now may }
 
 onward_twice : (s mid after : State) → IsOnward s mid → IsOnward mid after → IsOnward s after
 onward_twice s mid after one two =
@@ -170,7 +171,7 @@ pub left_from : (status : Status) (s last : State) (P Q : Type 0) (now_1 now_2 n
 left_from status s last P Q now_1 now_2 now_3 may_1 may_2 may_3 settled before left = by status left
   where
     further : IsLeft last P now_2 now_3 may_2 may_3 → IsLeft last Q now_1 now_3 may_1 may_3
-    further l = record { opens = l.opens; settled_again = λ q. l.settled_again (settled q); still = λ still. keeps_then_keeps now_1 now_2 now_3 may_1 may_2 may_3 (before still) (l.still still) }
+    further l = record { files = l.files; opens = l.opens; settled_again = λ q. l.settled_again (settled q); still = λ still. keeps_then_keeps now_1 now_2 now_3 may_1 may_2 may_3 (before still) (l.still still) }
 
     by : (status : Status) → HasLeft status s last P now_2 now_3 may_2 may_3 → HasLeft status s last Q now_1 now_3 may_1 may_3
     by (VolumeFault stop) l = λ q. l (settled q)
@@ -228,14 +229,14 @@ failed_put script left rest start s behind before middle after old new request r
 
 -- a run whose log files failed in a line
 pub failed_line : (script left : List ℕ) (rest : Option (List ℕ)) (start s : State) (before after : Option (List ℕ)) (old new : LineReader) (request : Request) (run : IsRunning script left start before after old s)
-    → IsNext script run.lines (Ok (Asks request)) new rest → HasRun script rest start before after (VolumeFault Logs) s (answer request s).1
-failed_line script left rest start s before after old new request run (line, is, asks, (more, is_left, given)) =
+    → IsNext script run.lines (Ok (Asks request)) new rest → ¬ (IsQuiet s (answer request s).1) → HasRun script rest start before after (VolumeFault Logs) s (answer request s).1
+failed_line script left rest start s before after old new request run (line, is, asks, (more, is_left, given)) calls =
     let (others, split) = first_lines script more (run.lines ++ line ∷ []) new given in
     record {
       lines = run.lines;
       answered = run.answered;
       answers = run.answers;
-      ends = inr (record { line = line; more = others; request = request; next = split ∙ append_assoc run.lines (line ∷ []) others; is_one = is; asks = asks; leads = refl });
+      ends = inr (record { line = line; more = others; request = request; next = split ∙ append_assoc run.lines (line ∷ []) others; is_one = is; asks = asks; leads = refl; calls = calls });
       texts_written = run.texts_written;
     }
 
@@ -257,7 +258,7 @@ ended_script script left rest start s before after reader old engine new now_old
   where
     by : (status : Status) → HasEnded status s engine now_old now_new may_old may_new → IsStep script rest start s before after reader engine new now_old now_new may_old may_new (Some status)
     by Done e = (s, all_forced s, record { lines = run.lines; answered = run.answered; answers = run.answers; ends = (done, refl); texts_written = run.texts_written }, e.0, e.1)
-    by (VolumeFault Logs) e = (s, s, record { lines = run.lines; answered = run.answered; answers = run.answers; ends = inl (done, refl); texts_written = run.texts_written }, e.0, e.1)
+    by (VolumeFault Logs) e = (s, s, record { lines = run.lines; answered = run.answered; answers = run.answers; ends = inl (done, refl, e.2); texts_written = run.texts_written }, e.0, e.1)
     by (VolumeFault Images) e = absurd e
     by (VolumeFault Backups) e = absurd e
     by ScriptFault e = absurd e

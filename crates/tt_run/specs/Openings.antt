@@ -127,9 +127,9 @@ IsCreated log _ now may = ⊥
 abbrev pub LeavesNoLog : (Name → Option (List ℕ) → Type 0) → Type 0
 LeavesNoLog may = (c : Option (List ℕ)) → may (LogFile 0) c → c ≡ None
 
--- a crash leaves no log that opens with an entry
-abbrev pub LeavesNoEntry : (Name → Option (List ℕ) → Type 0) → Type 0
-LeavesNoEntry may = (files : Files) → MayLeave may files → (found : Found) → opening files ≡ Ok found → found.entries ≡ []
+-- a crash leaves no log that opens as another than a new database
+abbrev pub LeavesNoOther : (Name → Option (List ℕ) → Type 0) → Type 0
+LeavesNoOther may = (files : Files) → MayLeave may files → (found : Found) → opening files ≡ Ok found → found ≡ new_database
 
 -- what `create` wrote
 abbrev pub IsCreateText : Option (List ℕ) → Option (List ℕ) → Status → Type 0 → Type 0

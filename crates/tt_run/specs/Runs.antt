@@ -14,6 +14,7 @@ use Rattle.tt_model.specs.State.{State, all_forced}
 use Rattle.tt_engine.specs.declared.engine.Engine.{Engine}
 use Rattle.tt_engine.specs.declared.request.Request.{Request}
 use Rattle.tt_engine.specs.Engines.{Stands}
+use Rattle.tt_engine.specs.LogTrail.{HasFiles, IsQuiet}
 use Rattle.tt_engine.specs.Prefixes.{IsOnward, IsStill, LeavesOpening, LogsAreSettled, OpensForced}
 use Rattle.tt_engine.specs.Requests.{Answers, answer}
 use Rattle.tt_disk.specs.declared.volume.Failed.{Failed}
@@ -49,7 +50,7 @@ AreLinesDone script left lines ScriptFault = (rest : List ℕ) × (left ≡ Some
 AreLinesDone script left lines SinkFault = (more : List (Option (List ℕ))) × (script_lines script ≡ lines ++ more)
 AreLinesDone script left lines _ = ⊥
 
--- A line behind these is one that is answered, and from this state it leads to that one.
+-- A line behind these is one that is answered. From this state it leads to that one, and forces something or begins a file.
 pub record LeadsTo (script : List ℕ) (lines : List (Option (List ℕ))) (s last : State) : Type 0 where
   pub line : Option (List ℕ)
   pub more : List (Option (List ℕ))
@@ -58,12 +59,14 @@ pub record LeadsTo (script : List ℕ) (lines : List (Option (List ℕ))) (s las
   pub is_one : is_answered line ≡ true
   pub asks : IsRequest line request
   pub leads : last ≡ (answer request s).1
+  pub calls : ¬ (IsQuiet s last)
 
 -- In which state the run ended so, where the lines that were answered left the first one. The end of the script forces all. A fault
--- of the log files came at the end of the script, or in the next line, which had then made a part of its entries.
+-- of the log files came at the end of the script, where something was to be forced, or in the next line, which had then made a part
+-- of its entries.
 abbrev pub EndsIn : List ℕ → Option (List ℕ) → List (Option (List ℕ)) → State → State → Status → Type 0
 EndsIn script left lines s last Done = AreLinesDone script left lines Done × (last ≡ all_forced s)
-EndsIn script left lines s last (VolumeFault Logs) = (AreLinesDone script left lines Done × (last ≡ s)) ⊎ LeadsTo script lines s last
+EndsIn script left lines s last (VolumeFault Logs) = (AreLinesDone script left lines Done × (last ≡ s) × (¬ (IsQuiet s (all_forced s)))) ⊎ LeadsTo script lines s last
 EndsIn script left lines s last status = AreLinesDone script left lines status × (last ≡ s)
 
 -- What was written when the run ended so: the text of each reply; of the last one a part, where the sink failed.
@@ -82,9 +85,11 @@ pub record HasRun (script : List ℕ) (left : Option (List ℕ)) (start : State)
 
 -- ---- what is left of the log files
 
--- What is left where no call on them failed: opening finds just the forced entries of the last state; it finds the same in each map
--- of files that a crash may leave, where that was so at the start; and where nothing was forced and no file began, no file changed.
+-- What is left where no call on them failed: the log files that are there are those of the last state; opening finds just its forced
+-- entries; it finds the same in each map of files that a crash may leave, where that was so at the start; and where nothing was
+-- forced and no file began, no file changed.
 pub record IsLeft (last : State) (settled : Type 0) (now_old now_new : Files) (may_old may_new : Name → Option (List ℕ) → Type 0) : Type 0 where
+  pub files : HasFiles last now_new
   pub opens : OpensForced last now_new
   pub settled_again : settled → LogsAreSettled now_new may_new
   pub still : IsStill last → Keeps now_old now_new may_old may_new
@@ -152,7 +157,7 @@ IsEnd _ logs = ⊥
 -- what is left then, and the state in which it ended
 abbrev pub HasEnded : Status → State → Engine → Files → Files → (Name → Option (List ℕ) → Type 0) → (Name → Option (List ℕ) → Type 0) → Type 0
 HasEnded Done s old now_old now_new may_old may_new = HasLeft Done s (all_forced s) (LeavesForced old.log now_old may_old) now_old now_new may_old may_new × IsOnward s (all_forced s)
-HasEnded (VolumeFault Logs) s old now_old now_new may_old may_new = HasLeft (VolumeFault Logs) s s (LeavesForced old.log now_old may_old) now_old now_new may_old may_new × IsOnward s s
+HasEnded (VolumeFault Logs) s old now_old now_new may_old may_new = HasLeft (VolumeFault Logs) s s (LeavesForced old.log now_old may_old) now_old now_new may_old may_new × IsOnward s s × (¬ (IsQuiet s (all_forced s)))
 HasEnded _ s old now_old now_new may_old may_new = ⊥
 
 -- After one line more, which was answered or skipped, the run goes on, or has ended.

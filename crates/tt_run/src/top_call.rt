@@ -13,7 +13,7 @@ ghost use Rattle.tt_engine.specs.Engines.{Stands};
 ghost use Rattle.tt_engine.specs.Prefixes.{IsSinceOpening, LeavesOpening, LogsAreSettled};
 ghost use Rattle.tt_engine.specs.Requests.{IsGiven};
 ghost use Rattle.tt_engine.specs.Starts.{begun_over, database};
-ghost use Rattle.tt_run.specs.Openings.{EndedEarly, IsBeforeLines, IsCreateEnd, IsCreateText, IsCreated, IsFaultOf, IsOpened, IsScriptRunEnd, LeavesNoEntry, LeavesNoLog, mark_place};
+ghost use Rattle.tt_run.specs.Openings.{EndedEarly, IsBeforeLines, IsCreateEnd, IsCreateText, IsCreated, IsFaultOf, IsOpened, IsScriptRunEnd, LeavesNoOther, LeavesNoLog, mark_place};
 ghost use Rattle.tt_run.specs.Replies.{text_of};
 ghost use Rattle.tt_run.specs.Runs.{HasEnded, IsEnd, IsLine, IsNext, IsRun, IsRunEnd, IsRunning, IsStep};
 ghost use Rattle.tt_run.specs.Settings.{IsBadSo, IsRefusedFor};
@@ -89,9 +89,9 @@ pub fn run<
     ensures there { (file : List ℕ) → L.told → form_of (map string_bytes words.now) ≡ Some Action.Create
         → L.now logs.old (Name.Log 0) ≡ Some file → Keeps (L.now logs.old) (L.now logs.new) (L.may logs.old) (L.may logs.new) }
 
-    // However it ends, no log that a crash leaves has an entry, if none could be left before.
-    ensures no_entry { L.told → form_of (map string_bytes words.now) ≡ Some Action.Create → LeavesNoLog (L.may logs.old)
-        → LeavesNoEntry (L.may logs.new) }
+    // However it ends, a log that a crash leaves opens as a new database, or not at all, if none could be left before.
+    ensures no_other { L.told → form_of (map string_bytes words.now) ≡ Some Action.Create → LeavesNoLog (L.may logs.old)
+        → LeavesNoOther (L.may logs.new) }
     ensures create_text { form_of (map string_bytes words.now) ≡ Some Action.Create
         → IsCreateText (K.given sink.old) (K.given sink.new) result (sink.new ≡ sink.old) }
 
@@ -160,7 +160,7 @@ fn create<K: Sink, L: Volume>(sink: &mut K, logs: &mut L) -> Status
     ensures created { L.told → IsCreated (L.now logs.old (Name.Log 0)) result (L.now logs.new) (L.may logs.new) }
     ensures there { (file : List ℕ) → L.told → L.now logs.old (Name.Log 0) ≡ Some file
         → Keeps (L.now logs.old) (L.now logs.new) (L.may logs.old) (L.may logs.new) }
-    ensures no_entry { L.told → LeavesNoLog (L.may logs.old) → LeavesNoEntry (L.may logs.new) }
+    ensures no_other { L.told → LeavesNoLog (L.may logs.old) → LeavesNoOther (L.may logs.new) }
     ensures text { IsCreateText (K.given sink.old) (K.given sink.new) result (sink.new ≡ sink.old) }
     ensures unbegun { IsBeforeLines result → (sink.new ≡ sink.old)
         × (L.told → Keeps (L.now logs.old) (L.now logs.new) (L.may logs.old) (L.may logs.new)) }

@@ -1,3 +1,4 @@
+use Rattle.std.proofs.Common.{◌∙◌, sym, true≢false}
 use Rattle.tt_engine.proofs.TrailLemmas.{quiet_stays, Added, still_trail, left_prefix, prefix_more}
 use Rattle.tt_engine.proofs.journal.add.Goals as goal
 
@@ -13,6 +14,7 @@ returns-in-Ok-clause-trail g c told s h =
       first = c.append.ensures.still.0;
       size = c.append.ensures.still.1;
       buffer = c.append.ensures.still.2;
+      files = c.in-Ok.ensures.files told;
     } in
     still_trail c.args.log.now c.append.new.self _ _ _ s c.args.entry.now c.in-Ok.field-0 (c.requires.open told) h a
 
@@ -29,3 +31,7 @@ returns-in-Err-clause-crash g c told s h kept =
 pub returns-in-Ok-clause-quiet : goal.returns-in-Ok-clause-quiet
 returns-in-Ok-clause-quiet g c told s h q =
     c.append.ensures.quiet (quiet_stays c.args.log.now _ _ s c.args.entry.now (c.requires.open told) h c.requires.entry q)
+
+pub returns-in-Err-clause-fails : goal.returns-in-Err-clause-fails
+returns-in-Err-clause-fails g c told s h q =
+    true≢false (sym c.in-Err.ensures.fails ∙ quiet_stays c.args.log.now _ _ s c.args.entry.now (c.requires.open told) h c.requires.entry q)

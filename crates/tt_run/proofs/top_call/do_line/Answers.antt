@@ -26,7 +26,7 @@ returns-in-Ok-ScriptTooLong-clause-step g c = λ told bytes left start s before 
       s,
       s,
       long_script bytes left (g.S.Source.left c.next_line.new.script) start s before (g.K.Sink.given c.args.sink.now) c.args.reader.now run next,
-      left_here s _ (g.L.Volume.now c.args.logs.now) (g.L.Volume.may c.args.logs.now) (c.opens_after_crash.ensures.forced told s stands) (c.opens_after_crash.ensures.settled told s stands),
+      left_here s _ (g.L.Volume.now c.args.logs.now) (g.L.Volume.may c.args.logs.now) stands.log.files (c.opens_after_crash.ensures.forced told s stands) (c.opens_after_crash.ensures.settled told s stands),
       same_onward s,
     )
 
@@ -36,7 +36,7 @@ returns-in-Err-clause-step g c = λ told bytes left start s before is_left run s
       s,
       s,
       failed_script bytes left (g.S.Source.left c.next_line.new.script) start s before (g.K.Sink.given c.args.sink.now) c.args.reader.now run next,
-      left_here s _ (g.L.Volume.now c.args.logs.now) (g.L.Volume.may c.args.logs.now) (c.opens_after_crash.ensures.forced told s stands) (c.opens_after_crash.ensures.settled told s stands),
+      left_here s _ (g.L.Volume.now c.args.logs.now) (g.L.Volume.may c.args.logs.now) stands.log.files (c.opens_after_crash.ensures.forced told s stands) (c.opens_after_crash.ensures.settled told s stands),
       same_onward s,
     )
 
@@ -45,7 +45,8 @@ returns-in-Err-step-clause-step g c = λ told bytes left start s before is_left 
     let next = subst (λ (r : Result NextLine Failed). IsNext bytes run.lines r c.next_line.new.reader (g.S.Source.left c.next_line.new.script)) (c.in-Ok-Asks.is ∙ ap (λ (n : NextLine). Ok n) c.in-Ok-Asks.field-0-is) (c.next_line.ensures.read bytes left run.lines is_left run.given) in (
       s,
       (answer c.in-Ok-Asks.request s).1,
-      failed_line bytes left (g.S.Source.left c.next_line.new.script) start s before (g.K.Sink.given c.args.sink.now) c.args.reader.now c.next_line.new.reader c.in-Ok-Asks.request run next,
+      failed_line bytes left (g.S.Source.left c.next_line.new.script) start s before (g.K.Sink.given c.args.sink.now) c.args.reader.now c.next_line.new.reader c.in-Ok-Asks.request run next
+          (c.in-Err-step.ensures.fails told s stands).moves,
       (λ kept. (c.in-Err-step.ensures.crash told s stands kept).leaves),
       c.step.ensures.onward told s stands,
     )
@@ -82,6 +83,7 @@ returns-in-Err-put_reply-clause-step g c = λ told bytes left start s before is_
       failed_put bytes left (g.S.Source.left c.next_line.new.script) start s so.after before (g.K.Sink.given c.args.sink.now) (g.K.Sink.given c.put_reply.new.sink) c.args.reader.now c.next_line.new.reader
           c.in-Ok-Asks.request c.in-Ok.reply n run next so.answers part,
       record {
+        files = so.stands.log.files;
         opens = c.opens_after_crash-2.ensures.forced told so.after so.stands;
         settled_again = λ kept. c.opens_after_crash-2.ensures.settled told so.after so.stands (c.in-Ok.ensures.kept told kept);
         still = λ still.

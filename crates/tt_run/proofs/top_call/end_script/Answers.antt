@@ -10,6 +10,7 @@ returns-in-Ok-clause-ends g c = λ told s stands since.
     let behind = c.in-Ok.ensures.stands told s stands in
     let onward = c.end.ensures.onward told s stands in (
       record {
+        files = behind.log.files;
         opens = c.opens_after_crash.ensures.forced told (all_forced s) behind;
         settled_again = λ kept. c.opens_after_crash.ensures.settled told (all_forced s) behind (c.in-Ok.ensures.kept told kept);
         still = λ still.
@@ -20,4 +21,4 @@ returns-in-Ok-clause-ends g c = λ told s stands since.
     )
 
 pub returns-in-Err-clause-ends : goal.returns-in-Err-clause-ends
-returns-in-Err-clause-ends g c = λ told s stands since. (λ kept. c.in-Err.ensures.crash told s stands kept, same_onward s)
+returns-in-Err-clause-ends g c = λ told s stands since. (λ kept. c.in-Err.ensures.crash told s stands kept, same_onward s, λ q. c.in-Err.ensures.fails told s stands q)

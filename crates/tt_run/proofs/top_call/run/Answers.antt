@@ -25,8 +25,8 @@ returns-in-Err-clause-bad_attribute g c = λ text name form told says. ended_bad
 pub returns-in-Err-clause-created : goal.returns-in-Err-clause-created
 returns-in-Err-clause-created g c = λ text settings known form told says. ended_created c.in-Err.status _ settings _ _ _ (ended_so c.in-Err.status _ c.in-Err.ensures.cause) (c.in-Err.ensures.only text (Ok settings) told says)
 
-pub returns-in-Err-clause-no_entry : goal.returns-in-Err-clause-no_entry
-returns-in-Err-clause-no_entry g c = λ told form none. none_left (g.L.Volume.may c.args.logs.now) none
+pub returns-in-Err-clause-no_other : goal.returns-in-Err-clause-no_other
+returns-in-Err-clause-no_other g c = λ told form none. none_left (g.L.Volume.may c.args.logs.now) none
 
 pub returns-in-Err-clause-create_text : goal.returns-in-Err-clause-create_text
 returns-in-Err-clause-create_text g c = λ form. ended_text c.in-Err.status _ _ (g.K.Sink.given c.args.sink.now) (ended_so c.in-Err.status _ c.in-Err.ensures.cause) refl

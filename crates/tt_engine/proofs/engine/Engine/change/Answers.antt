@@ -50,3 +50,12 @@ returns-clause-quiet g c told s value h i q =
     let is = inserted c.args.self.now _ s c.args.transaction c.args.key value c.args.entry.now c.laws.ensures h c.requires.number.2 c.requires.number.1 c.requires.free i some in
     c.in-Ok-add.ensures.quiet told s h.log
     (subst (λ (e : Entry). IsQuiet s (with_entry e s)) (sym i.is) (filled_quiet c.args.transaction c.args.self.now.rows.free c.args.key value s (subst (λ (after : State). IsQuiet s after) (ap (λ a. a.1) is) q.quiet)))
+
+pub returns-in-Err-add-clause-fails : goal.returns-in-Err-add-clause-fails
+returns-in-Err-add-clause-fails g c told s value h i =
+    let some = some_there c.has_place.result (place_of (write_of c.args.self.now.log) (length_of c.args.entry.now) c.args.self.now.log.file_size) c.has_place.ensures c.if-not-has_place.false in
+    let is = inserted c.args.self.now _ s c.args.transaction c.args.key value c.args.entry.now c.laws.ensures h c.requires.number.2 c.requires.number.1 c.requires.free i some in
+    record {
+      moves = λ q. c.in-Err-add.ensures.fails told s h.log
+          (subst (λ (e : Entry). IsQuiet s (with_entry e s)) (sym i.is) (filled_quiet c.args.transaction c.args.self.now.rows.free c.args.key value s (subst (λ (after : State). IsQuiet s after) (ap (λ a. a.1) is) q)));
+    }

@@ -67,3 +67,25 @@ returns-in-Ok-settle-clause-quiet g c told s h q =
     (stands_closed e _ _ _ s t c.laws.ensures.fresh h c.requires.own (record { own = refl; next = refl; wish = refl; durable = refl; rows = refl }) (c.in-Ok.ensures.trail told s h.log))
     (settled_quiet (closed t s) (closed_durable t s ∙ parts.0))
     ∙ c.in-Ok.ensures.quiet told s h.log parts.1
+
+pub returns-in-Err-clause-fails : goal.returns-in-Err-clause-fails
+returns-in-Err-clause-fails g c told s h =
+    let e : Engine = c.args.self.now in
+    let t = c.args.transaction in
+    let some = some_there c.has_place.result (place_of (write_of e.log) (length_of (CommitEntry t)) e.log.file_size) c.has_place.ensures c.if-not-has_place.false in
+    let is = commit_done e _ s t h c.requires.own some in
+    record { moves = λ q. c.in-Err.ensures.fails told s h.log (quiet_durable (is_durable 1 s) t s h.log.bounds.1 (subst (λ (after : State). IsQuiet s after) (ap (λ a. a.1) is) q)).1 }
+
+pub returns-clause-fails : goal.returns-clause-fails
+returns-clause-fails g c told s h =
+    let e : Engine = c.args.self.now in
+    let t = c.args.transaction in
+    let some = some_there c.has_place.result (place_of (write_of e.log) (length_of (CommitEntry t)) e.log.file_size) c.has_place.ensures c.if-not-has_place.false in
+    let is = commit_done e _ s t h c.requires.own some in
+    record {
+      moves = λ q.
+          let parts = quiet_durable (is_durable 1 s) t s h.log.bounds.1 (subst (λ (after : State). IsQuiet s after) (ap (λ a. a.1) is) q) in
+          c.in-Err-settle.ensures.fails told (closed t s)
+          (stands_closed e _ _ _ s t c.laws.ensures.fresh h c.requires.own (record { own = refl; next = refl; wish = refl; durable = refl; rows = refl }) (c.in-Ok.ensures.trail told s h.log))
+          (settled_quiet (closed t s) (closed_durable t s ∙ parts.0));
+    }

@@ -9,3 +9,6 @@ returns-in-Ok-clause-answers g c told s h =
 
 pub returns-in-Err-clause-crash : goal.returns-in-Err-clause-crash
 returns-in-Err-clause-crash g c told s h kept = record { leaves = forced_opens c.args.self.now _ s (g.L.Volume.may c.force.new.volume) c.laws.ensures h (forced_prefix s.forced s (g.L.Volume.may c.force.new.volume) (c.force.ensures.crash told s h.log kept)) }
+
+pub returns-in-Err-clause-fails : goal.returns-in-Err-clause-fails
+returns-in-Err-clause-fails g c told s h = record { moves = λ q. c.in-Err.ensures.fails told s h.log q }

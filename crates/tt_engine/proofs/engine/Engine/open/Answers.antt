@@ -23,7 +23,7 @@ pub returns-in-Ok-true-clause-started : goal.returns-in-Ok-true-clause-started
 returns-in-Ok-true-clause-started g c told =
     let got = c.in-Ok.ensures.found told in
     let ready : IsReady c.args.settings.now (g.L.Volume.now c.args.logs.now) (g.L.Volume.now c.recover.new.volume) c.in-Ok.recovered c.in-Ok-over.engine =
-    record { recovered = got; over = c.in-Ok-over.ensures.over; first = c.in-Ok.ensures.first; force = c.in-Ok.ensures.force; sizes = c.in-Ok.ensures.sizes } in
+    record { recovered = got; over = c.in-Ok-over.ensures.over; first = c.in-Ok.ensures.first; force = c.in-Ok.ensures.force; sizes = c.in-Ok.ensures.sizes; reads = (c.recover.ensures.keeps told).reads } in
     record {
       found = got.found;
       is = got.is;
@@ -40,7 +40,7 @@ returns-in-Ok-true-clause-kept g c told leaves =
 pub returns-in-Ok-true-clause-crash : goal.returns-in-Ok-true-clause-crash
 returns-in-Ok-true-clause-crash g c told leaves found is =
     let ready : IsReady c.args.settings.now (g.L.Volume.now c.args.logs.now) (g.L.Volume.now c.recover.new.volume) c.in-Ok.recovered c.in-Ok-over.engine =
-    record { recovered = c.in-Ok.ensures.found told; over = c.in-Ok-over.ensures.over; first = c.in-Ok.ensures.first; force = c.in-Ok.ensures.force; sizes = c.in-Ok.ensures.sizes } in
+    record { recovered = c.in-Ok.ensures.found told; over = c.in-Ok-over.ensures.over; first = c.in-Ok.ensures.first; force = c.in-Ok.ensures.force; sizes = c.in-Ok.ensures.sizes; reads = (c.recover.ensures.keeps told).reads } in
     let trail = mark_ready c.args.settings.now (g.L.Volume.now c.args.logs.now) (g.L.Volume.now c.recover.new.volume) c.in-Ok.recovered c.in-Ok-over.engine ready found is in
     let kept = subst (λ (l : Log). LeavesForced l (g.L.Volume.now c.recover.new.volume) (g.L.Volume.may c.recover.new.volume)) (sym c.in-Ok-over.ensures.over.log) (c.in-Ok.ensures.kept told leaves) in
     begun_opens c.laws.ensures.opening c.args.settings.now (g.L.Volume.now c.args.logs.now) found (g.L.Volume.may c.mark.new.logs) is (marked_prefix c.mark.new.self.log (g.L.Volume.now c.mark.new.logs) (g.L.Volume.may c.mark.new.logs) (g.L.Volume.may c.mark.new.logs) c.args.settings.now (g.L.Volume.now c.args.logs.now) found (c.in-Ok-true.ensures.open told)
@@ -55,7 +55,7 @@ returns-in-Ok-false-clause-crash g c told leaves found is =
 pub returns-in-Err-mark-clause-crash : goal.returns-in-Err-mark-clause-crash
 returns-in-Err-mark-clause-crash g c told leaves found is =
     let ready : IsReady c.args.settings.now (g.L.Volume.now c.args.logs.now) (g.L.Volume.now c.recover.new.volume) c.in-Ok.recovered c.in-Ok-over.engine =
-    record { recovered = c.in-Ok.ensures.found told; over = c.in-Ok-over.ensures.over; first = c.in-Ok.ensures.first; force = c.in-Ok.ensures.force; sizes = c.in-Ok.ensures.sizes } in
+    record { recovered = c.in-Ok.ensures.found told; over = c.in-Ok-over.ensures.over; first = c.in-Ok.ensures.first; force = c.in-Ok.ensures.force; sizes = c.in-Ok.ensures.sizes; reads = (c.recover.ensures.keeps told).reads } in
     let trail = mark_ready c.args.settings.now (g.L.Volume.now c.args.logs.now) (g.L.Volume.now c.recover.new.volume) c.in-Ok.recovered c.in-Ok-over.engine ready found is in
     let kept = subst (λ (l : Log). LeavesForced l (g.L.Volume.now c.recover.new.volume) (g.L.Volume.may c.recover.new.volume)) (sym c.in-Ok-over.ensures.over.log) (c.in-Ok.ensures.kept told leaves) in
     begun_opens c.laws.ensures.opening c.args.settings.now (g.L.Volume.now c.args.logs.now) found (g.L.Volume.may c.mark.new.logs) is (mark_prefix c.args.settings.now (g.L.Volume.now c.args.logs.now) found (g.L.Volume.may c.mark.new.logs) (c.in-Err-mark.ensures.crash told _ trail kept))
@@ -67,7 +67,7 @@ returns-in-Err-clause-refused g c told =
 pub returns-in-Ok-true-clause-still : goal.returns-in-Ok-true-clause-still
 returns-in-Ok-true-clause-still g c told found is still =
     let ready : IsReady c.args.settings.now (g.L.Volume.now c.args.logs.now) (g.L.Volume.now c.recover.new.volume) c.in-Ok.recovered c.in-Ok-over.engine =
-    record { recovered = c.in-Ok.ensures.found told; over = c.in-Ok-over.ensures.over; first = c.in-Ok.ensures.first; force = c.in-Ok.ensures.force; sizes = c.in-Ok.ensures.sizes } in
+    record { recovered = c.in-Ok.ensures.found told; over = c.in-Ok-over.ensures.over; first = c.in-Ok.ensures.first; force = c.in-Ok.ensures.force; sizes = c.in-Ok.ensures.sizes; reads = (c.recover.ensures.keeps told).reads } in
     let trail = mark_ready c.args.settings.now (g.L.Volume.now c.args.logs.now) (g.L.Volume.now c.recover.new.volume) c.in-Ok.recovered c.in-Ok-over.engine ready found is in
     subst (λ v. Keeps (g.L.Volume.now c.args.logs.now) (g.L.Volume.now v) (g.L.Volume.may c.args.logs.now) (g.L.Volume.may v)) (sym (c.in-Ok-true.ensures.calm told _ trail (begun_quiet c.args.settings.now (g.L.Volume.now c.args.logs.now) found still)))
     (c.recover.ensures.keeps told)

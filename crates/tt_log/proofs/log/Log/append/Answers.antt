@@ -1,4 +1,6 @@
-use Rattle.std.proofs.Common.{ap, sym, ◌∙◌, ◌++◌, ◌∷◌, [], List}
+use Rattle.std.proofs.Common.{ap, sym, subst, ◌∙◌, ◌++◌, ◌∷◌, [], List}
+use Rattle.tt_value.specs.declared.position.Position.{Position}
+use Rattle.tt_log.specs.Logs.{AddsFile}
 use Rattle.tt_record.specs.declared.entry.Entry.{Entry}
 use Rattle.tt_log.proofs.Adding.{Put, waits_too, still_open}
 use Rattle.std.proofs.Common.{Some}
@@ -35,3 +37,7 @@ returns-clause-crash g c told kept =
 pub returns-clause-kept : goal.returns-clause-kept
 returns-clause-kept g c told kept =
     kept_at c.args.self.now.first c.put.new.self.first (g.V.Volume.now c.make_room.new.volume) (g.V.Volume.may c.make_room.new.volume) (c.put.ensures.still.0 ∙ c.make_room.ensures.still.0) (c.in_ok-make_room.ensures.kept told kept)
+
+pub returns-clause-files : goal.returns-clause-files
+returns-clause-files g c told =
+    subst (λ (q : Position). AddsFile q.file (g.V.Volume.now c.args.volume.now) (g.V.Volume.now c.make_room.new.volume)) (sym c.write_position-at.ensures) (c.in_ok-make_room.ensures.files told)
