@@ -11,6 +11,8 @@ pub mod EndLemmas
 mod DeskExample
 mod ExampleWords
 mod Examples
+mod InsertRuns
+mod InsertedRows
 mod LineExamples
 pub mod FileLemmas
 pub mod FirstBeforeLemmas
