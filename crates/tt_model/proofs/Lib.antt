@@ -13,6 +13,7 @@ mod ExampleWords
 mod Examples
 mod InsertRuns
 mod InsertedRows
+mod LargeExamples
 mod LineExamples
 pub mod FileLemmas
 pub mod FirstBeforeLemmas
