@@ -137,7 +137,7 @@ AllKeep name [] = Unit {0}
 AllKeep name (e ∷ es) = (is_bookmark name e.before ≡ true → is_bookmark name e.after ≡ true) × AllKeep name es
 
 -- The row before of a Change is what its transaction sees there.
-before_is_seen : (base : Cells) (es : Trail) (t p : ℕ) (b : Cell) → IsSteady base es → MayChange base es t p b → b ≡ changed_by t es (committed base es) p
+pub before_is_seen : (base : Cells) (es : Trail) (t p : ℕ) (b : Cell) → IsSteady base es → MayChange base es t p b → b ≡ changed_by t es (committed base es) p
 before_is_seen base es t p b st m = elim (cases_Bool (touched t p es)) [
   | inl y ↦ elim (cases_Bool (is_live t es)) [
     | inl l ↦ m.before ∙ st.own t p l y
@@ -149,7 +149,7 @@ before_is_seen base es t p b st m = elim (cases_Bool (touched t p es)) [
   ]) ∙ sym (changed_by-untouched t p es (committed base es) n))
 ]
 
-abbrev seen_by : ℕ → State → Cells
+abbrev pub seen_by : ℕ → State → Cells
 seen_by t s = changed_by t s.entries (cells_of s)
 
 put_keeps : (name : List ℕ) (p q : ℕ) (b a : Cell) (cells : Cells) → b ≡ cells p → (is_bookmark name b ≡ true → is_bookmark name a ≡ true) → is_bookmark name (cells q) ≡ true →

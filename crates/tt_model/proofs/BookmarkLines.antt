@@ -114,7 +114,7 @@ pub record ReadBy (name : List ℕ) (s : State) : Type 0 where
   pub is_open : s.reader session ≡ Some reader
   pub bookmark_is : reader.bookmark ≡ name
 
-among : (k n from : ℕ) → from ≤ k → k < from + n → list_any (nat_eq k) (numbers_from n from) ≡ true
+pub among : (k n from : ℕ) → from ≤ k → k < from + n → list_any (nat_eq k) (numbers_from n from) ≡ true
 among k zero from l m = let no : ⊥ = omega (arith, l, m) in absurd no
 among k (suc n) from l m = elim (cases_Bool (nat_eq k from)) [
   | inl y ↦ or_left (nat_eq k from) (list_any (nat_eq k) (numbers_from n (suc from))) y
@@ -167,10 +167,10 @@ system-keeps name (Gives rows) s h f i = i
 system-keeps name (Makes edits) s h f i =
     keeps-unless name (no_system_place edits s) Done (system_done edits s) s i (keeps-system_done name edits s h ((f edits refl).0) ((f edits refl).1) i)
 
-may_new : (s : State) (edits : List CellEdit) → IsSound s → AreNew edits → MayEdit (next s) edits s
+pub may_new : (s : State) (edits : List CellEdit) → IsSound s → AreNew edits → MayEdit (next s) edits s
 may_new s edits h n = new-MayEdit (next s) edits s h.entries (inr refl) n
 
-may_good : (s : State) (edits : List CellEdit) → IsSound s → AreGood s edits → MayEdit (next s) edits s
+pub may_good : (s : State) (edits : List CellEdit) → IsSound s → AreGood s edits → MayEdit (next s) edits s
 may_good s edits h g = of_rows-MayEdit s edits h g.of_rows g.apart
 
 set_edit_keeps : (name : List ℕ) (o : Option PlacedRow) (set : ℕ) (end : Position) (s : State) → IsSound s → ((r : PlacedRow) → o ≡ Some r → cells_of s (r.0) ≡ FullCell 6 (r.1)) →
@@ -431,7 +431,7 @@ kept-answers s who (Ok command) reply after w h b k (inl t) = subst Kept (sym (t
 kept-answers s who (Err r) reply after w h b k (inl t) = subst Kept (sym (t.1)) k
 
 -- A reader's own bookmark is there.
-its_bookmark : (who : ℕ) (what : Result Command Refusal) (s : State) → ReadersHaveBookmarks s → HasItsBookmark who what s
+pub its_bookmark : (who : ℕ) (what : Result Command Refusal) (s : State) → ReadersHaveBookmarks s → HasItsBookmark who what s
 its_bookmark who (Ok XlaAcknowledge) s k = λ r e. (k who r e).1
 its_bookmark who (Ok command) s k = tt
 its_bookmark who (Err r) s k = tt

@@ -36,6 +36,7 @@ use Rattle.tt_model.specs.State.{State, CellEdit, trail, view, cells_of, bound, 
 use Rattle.tt_model.specs.Meaning.{Meant, Makes, refused_if, first_of, unless, row_refusal, conflict, key_name, key_there, no_room, rows_seen, insert_refusal, insert_into, is_value_out, meant_by_insert}
 use Rattle.tt_model.specs.Checkpoint.{with_copies, copied}
 use Rattle.tt_model.specs.Step.{Answered, stepped, line, unless_refused, statement, made_in, number_for, no_number_for, no_place, edit_length, completion_after}
+use Rattle.tt_model.proofs.RowLemmas.{none_from, first_from}
 use Rattle.tt_model.proofs.HolderLemmas.{other_holder-own_Change, in_use-Change, first_entry-kept}
 use Rattle.tt_model.proofs.AppendLemmas.{cells-Change, live-Change, view-Change, write_position-with_entry}
 use Rattle.tt_model.proofs.ConditionRuns.{Line, replies, after}
@@ -83,16 +84,12 @@ by_number P (suc n) below above q = by_number P n (below.1) (λ x h. one_more P 
 
 -- Places with no row of a table give none.
 pub rows-none : (table n from : ℕ) (cells : Cells) → ((q : ℕ) → from ≤ q → row_in table (cells q) ≡ None) → filter_map (row_at table cells) (numbers_from n from) ≡ []
-rows-none table zero from cells h = refl
-rows-none table (suc n) from cells h = rw (h from (le_refl from)) (rows-none table n (suc from) cells (λ q l. h q (omega (arith, l))))
+rows-none table n from cells h = none_from (row_at table cells) n from (λ q l. ap (λ (o : Option Row). option_map (λ row. (q, row)) o) (h q l))
 
 -- Where all rows of a table lie in the first places, the others don't matter.
 rows-first : (table a n from : ℕ) (cells : Cells) → a ≤ n → ((q : ℕ) → a + from ≤ q → row_in table (cells q) ≡ None) →
     filter_map (row_at table cells) (numbers_from n from) ≡ filter_map (row_at table cells) (numbers_from a from)
-rows-first table zero n from cells l h = rows-none table n from cells (λ q k. h q (omega (arith, k)))
-rows-first table (suc a) zero from cells l h = absurd (omega (arith, l))
-rows-first table (suc a) (suc n) from cells l h =
-    ap (λ (rows : List PlacedRow). cons_option (row_at table cells from) rows) (rows-first table a n (suc from) cells (omega (arith, l)) (λ q k. h q (omega (arith, k))))
+rows-first table a n from cells l h = first_from (row_at table cells) a n from l (λ q k. ap (λ (o : Option Row). option_map (λ row. (q, row)) o) (h q k))
 
 kv_cells-none : (table q : ℕ) → 3 ≤ q → row_in table (kv_cells q) ≡ None
 kv_cells-none table q h = rw (differs q 2 (omega (arith, h)), differs q 1 (omega (arith, h)), differs q 0 (omega (arith, h))) refl

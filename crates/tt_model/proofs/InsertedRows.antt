@@ -284,7 +284,7 @@ told-step l rest s t r rs e h = ap (λ (a : Answered). a.0 ∷ replies rest (a.1
 pub left-step : (l : Line) (rest : List Line) (s : State) (a : Answered) → stepped (l.0) (l.1) s ≡ a → after (l ∷ rest) s ≡ after rest (a.1)
 left-step l rest s a e = ap (λ (x : Answered). after rest (x.1)) e
 
--- The numbers from k to k.
+-- Only k itself is at least k and at most k.
 pub one_alone : (k n : ℕ) → (nat_le k n && nat_le n k) ≡ nat_eq n k
 one_alone k n = by_test (nat_eq n k) refl (nat_le k n) refl
   where

@@ -201,8 +201,8 @@ module _ (s : State) (h : Written eight_a_round none_own [] 10 (position 1 4049)
   second_checkpoint_files n =
       rw (none_live, none_live, none_live, log_low, sets-none 320 s.entries h.plain, bookmarks-none 320 s.entries h.plain, log_end) (one_alone 1 n)
 
--- A table, three hundred rows in it, their commit, and lines behind that. It is no abbreviation: so a statement that names it is read
--- without computing its lines.
+-- A table, three hundred rows in it, their commit, and lines behind that. It doesn't unfold by itself: so a statement that names it is
+-- read without computing its lines.
 three_hundred_rows_and : List Line → List Line
 three_hundred_rows_and rest = (1, create_kv) ∷ pairs 1 300 1 1 ++ (1, Commit) ∷ rest
 
@@ -585,7 +585,7 @@ module _ (n : ℕ) (e : n ≡ 1999) where
       ∙ last_files written.state written.written file
 
 -- While a transaction is live, a blocking checkpoint is refused, and each other one holds the log from its first entry on. Once it has
--- ended, two checkpoints of which nothing is to be copied let the log go.
+-- ended, two checkpoints of which nothing is to be copied leave the last file of the log alone.
 live_transaction_holds_the_log : replies (two_thousand_rows_and (held_lines ++ free_lines)) (start small_files) ≡
     Done
     ∷ Changed 1
@@ -606,5 +606,5 @@ live_transaction_holds_the_log = both_told_all 1999 refl
 held_log_is_kept : (file : ℕ) → (after (two_thousand_rows_and held_lines) (start small_files)).files file ≡ nat_le file 9
 held_log_is_kept = both_held_files 1999 refl
 
-log_is_let_go : (file : ℕ) → (after (two_thousand_rows_and (held_lines ++ (1, CkptBlocking) ∷ (1, CkptBlocking) ∷ [])) (start small_files)).files file ≡ nat_eq file 9
-log_is_let_go = both_last_files 1999 refl
+last_file_is_left : (file : ℕ) → (after (two_thousand_rows_and (held_lines ++ (1, CkptBlocking) ∷ (1, CkptBlocking) ∷ [])) (start small_files)).files file ≡ nat_eq file 9
+last_file_is_left = both_last_files 1999 refl

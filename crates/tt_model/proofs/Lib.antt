@@ -19,6 +19,7 @@ pub mod FileLemmas
 pub mod FirstBeforeLemmas
 pub mod HolderLemmas
 pub mod GrowLemmas
+pub mod HeldInRuns
 pub mod HoldLemmas
 pub mod IsolationLemmas
 pub mod LineLemmas
@@ -46,4 +47,7 @@ pub mod SteadyLemmas
 pub mod StepLemmas
 pub mod SystemLemmas
 pub mod SystemLines
+pub mod TableLines
+pub mod TableRounds
+pub mod TableRows
 pub mod SteadySteps

@@ -62,7 +62,7 @@ held_edit name u t e s n h = elim (or_cases (nat_eq u t && (has_held name e.befo
   | inr y ↦ y
 ]
 
-held_edits : (name : Held) (u t : ℕ) (edits : List CellEdit) (s : State) → nat_eq t u ≡ false → is_held_by name ((with_edits t edits s).entries) u ≡ true → is_held_by name s.entries u ≡ true
+pub held_edits : (name : Held) (u t : ℕ) (edits : List CellEdit) (s : State) → nat_eq t u ≡ false → is_held_by name ((with_edits t edits s).entries) u ≡ true → is_held_by name s.entries u ≡ true
 held_edits name u t [] s n h = h
 held_edits name u t (e ∷ edits) s n h = held_edit name u t e s n (held_edits name u t edits (with_edit t e s) n h)
 

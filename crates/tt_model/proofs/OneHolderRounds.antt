@@ -244,7 +244,7 @@ catalog_copied : (n : ℕ) (o : Option Begun) (s : State) → catalog (copied n 
 catalog_copied n None s = refl
 catalog_copied n (Some b) s = refl
 
-catalog-with_copies : (s : State) → catalog (with_copies s) ≡ catalog s
+pub catalog-with_copies : (s : State) → catalog (with_copies s) ≡ catalog s
 unfolding with_copies
 catalog-with_copies s = catalog_copied s.settings.ckpt_pages s.underway s
 

@@ -276,27 +276,32 @@ equal_values : (xs ys : List Value) → same_values xs ys ≡ true → xs ≡ ys
 equal_values xs ys h = (slice_eq-Decides same_value-Decides xs ys (same_values xs ys) refl).0 h
 
 -- The key columns of a table are those of its number.
-abbrev key_columns : ℕ → State → List ℕ
+abbrev pub key_columns : ℕ → State → List ℕ
 key_columns id s = key_of (by_number 1 (with_number_at 0 id (rows_of 2 (bound s) (cells_of s))))
 
 each_key : (columns rows : List PlacedRow) → Each (λ (t : Table). t.key ≡ key_of (by_number 1 (with_number_at 0 t.id columns))) (map (table_of columns) rows)
 each_key columns [] = tt
 each_key columns (r ∷ rows) = (refl, each_key columns rows)
 
-keys-by_number : (s : State) → Each (λ (t : Table). t.key ≡ key_columns t.id s) (catalog s).tables
+pub keys-by_number : (s : State) → Each (λ (t : Table). t.key ≡ key_columns t.id s) (catalog s).tables
 unfolding catalog_of
 keys-by_number s = each_key (rows_of 2 (bound s) (cells_of s)) (by_number 0 (rows_of 1 (bound s) (cells_of s)))
 
-pub key-safe : (session : ℕ) (s : State) (u : Table) (values : List Value) → IsAmong u (catalog s).tables → AllSafe (record { table = u.id; columns = u.key; values = values }) session s
-key-safe session s u values a table t found row tested y =
-    let parts : (nat_eq u.id t.id ≡ true) × (same_values (values_at u.key row) values ≡ true) = and_parts (nat_eq u.id t.id) (same_values (values_at u.key row) values) y in
-    let number : u.id ≡ t.id = eqb-true u.id t.id (parts.0) in
-    let of_u : u.key ≡ key_columns u.id s = each-one (λ (x : Table). x.key ≡ key_columns x.id s) u (catalog s).tables (keys-by_number s) a in
+-- So is what has the key of a number, whether a table has the number or not.
+pub number-safe : (session : ℕ) (s : State) (id : ℕ) (values : List Value) → AllSafe (record { table = id; columns = key_columns id s; values = values }) session s
+number-safe session s id values table t found row tested y =
+    let parts : (nat_eq id t.id ≡ true) × (same_values (values_at (key_columns id s) row) values ≡ true) = and_parts (nat_eq id t.id) (same_values (values_at (key_columns id s) row) values) y in
+    let number : id ≡ t.id = eqb-true id t.id (parts.0) in
     let of_t : t.key ≡ key_columns t.id s = each-found (λ (x : Table). x.key ≡ key_columns x.id s) _ t (catalog s).tables (keys-by_number s) found in
-    let columns : u.key ≡ t.key = of_u ∙ (ap (λ (n : ℕ). key_columns n s) number ∙ sym of_t) in
-    let same : values ≡ values_at t.key row = sym (equal_values (values_at u.key row) values (parts.1)) ∙ ap (λ (cs : List ℕ). values_at cs row) columns in
-    ap (λ (n : Held). other_holder (s.own session) n (trail s)) (same_parts (record { table = u.id; columns = u.key; values = values }) t.id t.key (values_at t.key row) number columns same)
+    let columns : key_columns id s ≡ t.key = ap (λ (n : ℕ). key_columns n s) number ∙ sym of_t in
+    let same : values ≡ values_at t.key row = sym (equal_values (values_at (key_columns id s) row) values (parts.1)) ∙ ap (λ (cs : List ℕ). values_at cs row) columns in
+    ap (λ (n : Held). other_holder (s.own session) n (trail s)) (same_parts (record { table = id; columns = key_columns id s; values = values }) t.id t.key (values_at t.key row) number columns same)
     ∙ no_other (other_holder (s.own session) (key_name t row) (trail s)) tested.key
+
+pub key-safe : (session : ℕ) (s : State) (u : Table) (values : List Value) → IsAmong u (catalog s).tables → AllSafe (record { table = u.id; columns = u.key; values = values }) session s
+key-safe session s u values a =
+    let of_u : u.key ≡ key_columns u.id s = each-one (λ (x : Table). x.key ≡ key_columns x.id s) u (catalog s).tables (keys-by_number s) a in
+    subst (λ (cs : List ℕ). AllSafe (record { table = u.id; columns = cs; values = values }) session s) (sym of_u) (number-safe session s u.id values)
 
 no_conflict : (own : Option ℕ) (es : Trail) (name : Held) → has_null name.values ≡ false → value_conflict own es name ≡ None → other_holder own name es ≡ None
 no_conflict own es name n c = no_other (other_holder own name es) (sym (ap (λ b. cond b None (conflict own es name)) n) ∙ c)

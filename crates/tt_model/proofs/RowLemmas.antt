@@ -1,5 +1,5 @@
 -- The rows that a statement changes lie in different places, each with what its session sees there.
-use Rattle.std.proofs.Common.{◌≡◌, ◌≤◌, inl, inr, ℕ, zero, suc, Bool, true, false, cond, ◌||◌, nat_eq, List, [], ◌∷◌, filter, Option, Some, None, unwrap_or, refl, sym, ap, ◌∙◌, arith, true≢false}
+use Rattle.std.proofs.Common.{◌≡◌, ◌≤◌, ◌+◌, inl, inr, ℕ, zero, suc, Bool, true, false, cond, ◌||◌, nat_eq, List, [], ◌∷◌, filter, Option, Some, None, unwrap_or, refl, sym, ap, ◌∙◌, arith, le_refl, true≢false}
 use Rattle.std.proofs.lemmas.Bool.{eq-eqb, eqb-true, or_cases, or_parts, or_left, or_right, false_from_ne_true, both_ways}
 use Rattle.std.specs.Prelude.{option_map}
 use Rattle.std.specs.List.{list_any, filter_map, cons_option}
@@ -27,6 +27,19 @@ LieIn table cells (r ∷ rows) = (cells (r.0) ≡ Full table (r.1)) × LieIn tab
 pub record AreRows (table : ℕ) (cells : Cells) (rows : List PlacedRow) : Type 0 where
   pub lie : LieIn table cells rows
   pub apart : AreApartRows rows
+
+-- ---- lists of numbers
+
+-- Places that give nothing give no rows.
+pub none_from : {X : Type 0} (g : ℕ → Option X) (n from : ℕ) → ((q : ℕ) → from ≤ q → g q ≡ None) → filter_map g (numbers_from n from) ≡ []
+none_from g zero from h = refl
+none_from g (suc n) from h = rw (h from (le_refl from)) (none_from g n (suc from) (λ q l. h q (omega (arith, l))))
+
+-- Where the first places alone give something, the others don't matter.
+pub first_from : {X : Type 0} (g : ℕ → Option X) (a n from : ℕ) → a ≤ n → ((q : ℕ) → a + from ≤ q → g q ≡ None) → filter_map g (numbers_from n from) ≡ filter_map g (numbers_from a from)
+first_from g zero n from l h = none_from g n from (λ q k. h q (omega (arith, k)))
+first_from g (suc a) zero from l h = absurd (omega (arith, l))
+first_from {X} g (suc a) (suc n) from l h = ap (λ (rows : List X). cons_option (g from) rows) (first_from g a n (suc from) (omega (arith, l)) (λ q k. h q (omega (arith, k))))
 
 -- ---- the rows of a table
 

@@ -166,7 +166,7 @@ any-inserted : (f : PlacedRow → Bool) (cmp : PlacedRow → PlacedRow → Order
 any-inserted f cmp x [] = refl
 any-inserted f cmp x (y ∷ ys) = any_inserted f cmp x y ys (any-inserted f cmp x ys) (is_gt (cmp x y))
 
-any-in_order : (f : PlacedRow → Bool) (cmp : PlacedRow → PlacedRow → Ordering) (xs : List PlacedRow) → list_any f (in_order cmp xs) ≡ list_any f xs
+pub any-in_order : (f : PlacedRow → Bool) (cmp : PlacedRow → PlacedRow → Ordering) (xs : List PlacedRow) → list_any f (in_order cmp xs) ≡ list_any f xs
 any-in_order f cmp [] = refl
 any-in_order f cmp (x ∷ xs) = any-inserted f cmp x (in_order cmp xs) ∙ ap (λ b. f x || b) (any-in_order f cmp xs)
 

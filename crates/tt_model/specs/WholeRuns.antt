@@ -186,8 +186,8 @@ pub record HeldOnceStays : Type 0 where
   pub step : (s : State) (session : ℕ) (what : Result Command Refusal) (reply : Reply) (after : State) → IsSound s → HeldOnce (catalog s) s.entries →
       Step s session what reply after → HeldOnce (catalog s) after.entries
 
--- That along a whole run, whatever its lines, each key and unique value of the tables and indexes which are there then has at most one
--- holder. It is stated here, and no function carries it.
+-- So along a whole run, whatever its lines, each key and unique value of the tables and indexes which are there then has at most one
+-- holder.
 abbrev pub HeldOnceInRuns : Type 0
 HeldOnceInRuns =
     (settings : Settings) (found : Found) (files : ℕ → Bool) (sets : ℕ → Option SetStanding) (lines : List Line) (replies : List Reply) (after : State)

@@ -1,7 +1,7 @@
 // The laws of the definitions.
 ghost use Rattle.tt_model.specs.Laws.{AtMostOneHolds, CheckpointsOpen, CommitsAlone, EntryIsAppended, ForcedNeverFalls, GrownIsSteady, LinesHaveAnswers, MarkEndsAll, NextIsAboveAll, NextIsFresh, OpeningFindsCommitted, OwnChangesAreSeen, PlacesAndFirstEntries, ReversedMayAbort, SeenRowsMayChange, StatesStaySound};
 ghost use Rattle.tt_model.specs.Opening.{FirstImagesOpen};
-ghost use Rattle.tt_model.specs.WholeRuns.{BookmarksStay, ForcedEntriesAreFound, HeldOnceStays, LogFilesAreKept, ReadersGoInOrder, SelectsAreIsolated, TrailsGoOn};
+ghost use Rattle.tt_model.specs.WholeRuns.{BookmarksStay, ForcedEntriesAreFound, HeldOnceInRuns, HeldOnceStays, LogFilesAreKept, ReadersGoInOrder, SelectsAreIsolated, TrailsGoOn};
 
 /// An entry stands at or behind the end of the last one, and the log then ends where it does.
 pub fn entry_is_appended()
@@ -106,6 +106,11 @@ pub fn bookmarks_stay()
 /// Over every line, each key and unique value that tables and indexes had before it stays with at most one transaction.
 pub fn held_once_stays()
     ensures { HeldOnceStays }
+{}
+
+/// Over whole runs, each key and unique value of the tables and indexes that are there then stays with at most one transaction.
+pub fn held_once_in_runs()
+    ensures { HeldOnceInRuns }
 {}
 
 /// Over every line, over every run and at its end the trail goes on, and no less of it is forced.
