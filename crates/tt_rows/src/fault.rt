@@ -58,6 +58,11 @@ pub enum Trouble {
         line: u64,
         wrote: String,
     },
+    #[error("line {line}: {behind} calls on the device came behind the one that failed")]
+    Calls {
+        line: u64,
+        behind: u64,
+    },
     #[error("line {line}: no outcome is given for {answered} replies before")]
     Unforeseen {
         line: u64,

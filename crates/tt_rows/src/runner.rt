@@ -240,6 +240,16 @@ impl Scene {
                 format!(in alloc; ", {device:?} failing at call {call}")?,
                 true,
             );
+            let behind = self
+                .volumes
+                .calls(device)
+                .saturating_sub(failing_call.saturating_add(1));
+            if device.is_volume() && behind > 0 {
+                return Err(Trouble::Calls {
+                    line: run.line,
+                    behind,
+                });
+            }
             check_failed(alloc, run, device, &ended)
         } else {
             check_outcomes(alloc, run, &ended, &self.volumes, self.answered_before)
