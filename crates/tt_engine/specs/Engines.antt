@@ -19,7 +19,7 @@ use Rattle.tt_recover.specs.Opening.{found_by}
 use Rattle.tt_engine.specs.LogTrail.{HasTrail, IsQuiet}
 use Rattle.tt_engine.specs.Prefixes.{IsOnward, LeavesOpening}
 use Rattle.tt_engine.specs.declared.request.Request.{Request}
-use Rattle.tt_engine.specs.Requests.{Answers, answer, kv, row_of, sees_key}
+use Rattle.tt_engine.specs.Requests.{Answers, answer, kv, row_of, script_ended, sees_key}
 
 -- where no place is left for a row
 abbrev pub places_end : ℕ
@@ -89,6 +89,10 @@ pub record LeavesLine (request : Request) (s : State) (may : Name → Option (Li
 pub record IsQuietLine (request : Request) (s : State) : Type 0 where
   pub quiet : IsQuiet s ((answer request s).1)
 
--- The line forces more, or begins a file.
-pub record IsMovingLine (request : Request) (s : State) : Type 0 where
+-- The line has calls on the log files: it forces more, or begins a file.
+pub record CallsLog (request : Request) (s : State) : Type 0 where
   pub moves : ¬ (IsQuiet s ((answer request s).1))
+
+-- The end of the script has calls on the log files: something is to be forced.
+pub record EndCallsLog (s : State) : Type 0 where
+  pub moves : ¬ (IsQuiet s (script_ended s))

@@ -43,6 +43,10 @@ answer DurableCommit s = (Done, record s { wish = at_one 1 true s.wish })
 answer Bookmark s = (Positions (write_position s) (force_position s) (position 0 0), s)
 answer (Refused refusal) s = refused refusal s
 
+-- What the end of a script does to a state: all is forced.
+abbrev pub script_ended : State → State
+script_ended s = all_forced s
+
 -- a reply that some line gives
 abbrev pub IsGiven : Reply → Type 0
 IsGiven Done = Unit {0}

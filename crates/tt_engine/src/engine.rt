@@ -9,13 +9,13 @@ ghost use Rattle.tt_record.specs.declared.entry.Entry.TheVariants.{Change};
 ghost use Rattle.tt_value.specs.declared.value.Cell.TheVariants.{Empty, Full};
 ghost use Rattle.tt_log.specs.Logs.{IsOpen, LeavesForced};
 ghost use Rattle.tt_log.specs.Walk.{Files, is_switch};
-ghost use Rattle.tt_model.specs.State.{State, all_forced};
+ghost use Rattle.tt_model.specs.State.{State};
 ghost use Rattle.tt_model.specs.Step.{forced_where, is_durable, settled};
 ghost use Rattle.tt_engine.specs.declared.request.Request.TheVariants.{Bookmark, Commit, DurableCommit, Flush, Insert};
 ghost use Rattle.tt_engine.specs.Laws.{Laws};
 ghost use Rattle.tt_engine.specs.Prefixes.{IsOnward, IsSinceOpening, IsStill, LeavesOpening, LogsAreSettled, OpensForced};
 ghost use Rattle.tt_engine.specs.LogTrail.{IsQuiet, LeavesPrefix};
-ghost use Rattle.tt_engine.specs.Requests.{IsGiven, answer, own_number, row_of};
+ghost use Rattle.tt_engine.specs.Requests.{IsGiven, answer, own_number, row_of, script_ended};
 ghost use Rattle.tt_value.specs.declared.refusal.Refusal.TheVariants.{NoMemory};
 ghost use Rattle.tt_value.specs.declared.reply.Reply.TheVariants.{Refused as RefusedSo};
 
@@ -89,7 +89,7 @@ fn insert_entry(
 }
 
 impl Engine {
-    ghost use Rattle.tt_engine.specs.Engines.{Stands, Advances, AnswersSo, IsInsert, IsMovingLine, LeavesLine, IsQuietLine};
+    ghost use Rattle.tt_engine.specs.Engines.{Stands, Advances, AnswersSo, CallsLog, EndCallsLog, IsInsert, LeavesLine, IsQuietLine};
     ghost use Rattle.tt_engine.specs.LogTrail.{HasTrail};
     ghost use Rattle.tt_engine.specs.Starts.{IsStarted, IsRefusedSo, UnlessFailed, begun_over};
     ghost use Rattle.tt_set.specs.Attributes.{AreInRange};
@@ -203,7 +203,7 @@ impl Engine {
 
     /// Opens a database: finds what its log stands for, and adds the Mark with which a run begins, unforced. Where the
     /// first log file isn't there, there is no database. After a refusal the log files are as they were, unless a call on them
-    /// failed: then they have what they had, and perhaps a further file without entries.
+    /// failed.
     pub fn start<L: Volume>(
         alloc: Global,
         settings: &Settings,
@@ -222,7 +222,7 @@ impl Engine {
             → IfOk result (λ e. LeavesForced e.log (L.now logs.new) (L.may logs.new)) }
 
         // The state with which a run begins is behind the opening. Where its Mark forces nothing and begins no file, no log
-        // file changes; nor does one after a refusal, unless a call failed, or where the log is damaged.
+        // file changes; nor does one after a refusal, unless a call failed; nor, whatever failed, where the log is damaged.
         ensures since { (found : Found) → IsSinceOpening (begun_over settings.now (L.now logs.old) found) }
         ensures still { L.told → (found : Found) → opening (L.now logs.old) ≡ Ok found
             → IsStill (begun_over settings.now (L.now logs.old) found)
@@ -283,7 +283,7 @@ impl Engine {
         ensures quiet { L.told → (s : State) (value : ℤ) → Stands self.old (L.now logs.old) s
             → IsInsert s self.old transaction key value entry.now → IsQuietLine (Insert key value) s → OnOk result (logs.new ≡ logs.old) }
         ensures fails { L.told → (s : State) (value : ℤ) → Stands self.old (L.now logs.old) s
-            → IsInsert s self.old transaction key value entry.now → OnErr result (IsMovingLine (Insert key value) s) }
+            → IsInsert s self.old transaction key value entry.now → OnErr result (CallsLog (Insert key value) s) }
         ensures wanting { IfOk result (λ reply. reply ≡ RefusedSo NoMemory → logs.new ≡ logs.old) }
         ensures given { IfOk result IsGiven }
         ensures cause { HasCause (L.faults logs.old) (L.faults logs.new) result }
@@ -324,7 +324,7 @@ impl Engine {
         ensures quiet { L.told → (s : State) → Stands self.old (L.now logs.old) s → IsQuietLine (Insert key value) s
             → OnOk result (logs.new ≡ logs.old) }
         ensures fails { L.told → (s : State) → Stands self.old (L.now logs.old) s
-            → OnErr result (IsMovingLine (Insert key value) s) }
+            → OnErr result (CallsLog (Insert key value) s) }
         ensures wanting { IfOk result (λ reply. reply ≡ RefusedSo NoMemory → logs.new ≡ logs.old) }
         ensures given { IfOk result IsGiven }
         ensures cause { HasCause (L.faults logs.old) (L.faults logs.new) result }
@@ -396,7 +396,7 @@ impl Engine {
         ensures quiet { L.told → (s : State) → Stands self.old (L.now logs.old) s → IsQuietLine Commit s
             → OnOk result (logs.new ≡ logs.old) }
         ensures fails { L.told → (s : State) → Stands self.old (L.now logs.old) s
-            → OnErr result (IsMovingLine Commit s) }
+            → OnErr result (CallsLog Commit s) }
         ensures wanting { IfOk result (λ reply. reply ≡ RefusedSo NoMemory → logs.new ≡ logs.old) }
         ensures given { IfOk result IsGiven }
         ensures cause { HasCause (L.faults logs.old) (L.faults logs.new) result }
@@ -430,7 +430,7 @@ impl Engine {
         ensures quiet { L.told → (s : State) → Stands self.old (L.now logs.old) s → IsQuietLine Commit s
             → OnOk result (logs.new ≡ logs.old) }
         ensures fails { L.told → (s : State) → Stands self.old (L.now logs.old) s
-            → OnErr result (IsMovingLine Commit s) }
+            → OnErr result (CallsLog Commit s) }
         ensures wanting { IfOk result (λ reply. reply ≡ RefusedSo NoMemory → logs.new ≡ logs.old) }
         ensures given { IfOk result IsGiven }
         ensures cause { HasCause (L.faults logs.old) (L.faults logs.new) result }
@@ -459,7 +459,7 @@ impl Engine {
         ensures quiet { L.told → (s : State) → Stands self.old (L.now logs.old) s → IsQuietLine Flush s
             → OnOk result (logs.new ≡ logs.old) }
         ensures fails { L.told → (s : State) → Stands self.old (L.now logs.old) s
-            → OnErr result (IsMovingLine Flush s) }
+            → OnErr result (CallsLog Flush s) }
         ensures wanting { IfOk result (λ reply. reply ≡ RefusedSo NoMemory → logs.new ≡ logs.old) }
         ensures given { IfOk result IsGiven }
         ensures cause { HasCause (L.faults logs.old) (L.faults logs.new) result }
@@ -511,7 +511,7 @@ impl Engine {
         ensures quiet { L.told → (s : State) → Stands self.old (L.now logs.old) s → IsQuietLine request s
             → OnOk result (logs.new ≡ logs.old) }
         ensures fails { L.told → (s : State) → Stands self.old (L.now logs.old) s
-            → OnErr result (IsMovingLine request s) }
+            → OnErr result (CallsLog request s) }
         ensures wanting { IfOk result (λ reply. reply ≡ RefusedSo NoMemory → logs.new ≡ logs.old) }
         ensures given { IfOk result IsGiven }
         ensures cause { HasCause (L.faults logs.old) (L.faults logs.new) result }
@@ -549,8 +549,8 @@ impl Engine {
             → LeavesForced self.old.log (L.now logs.old) (L.may logs.old)
             → OnErr result (LeavesLine request s (L.may logs.new)) }
 
-        // A line that forces nothing more and begins no file has no call that could fail.
-        ensures fails { L.told → (s : State) → Stands self.old (L.now logs.old) s → OnErr result (IsMovingLine request s) }
+        // Only a line that has calls on the log files can fail.
+        ensures fails { L.told → (s : State) → Stands self.old (L.now logs.old) s → OnErr result (CallsLog request s) }
 
         // Else just the forced entries, where it could leave no others before.
         ensures kept { L.told → LeavesForced self.old.log (L.now logs.old) (L.may logs.old)
@@ -584,16 +584,16 @@ impl Engine {
         requires open { L.told → IsOpen self.old.log (L.now logs.old) (L.may logs.old) }
         ensures open { L.told → OnOk result (IsOpen self.new.log (L.now logs.new) (L.may logs.new)) }
         ensures stands { L.told → (s : State) → Stands self.old (L.now logs.old) s
-            → OnOk result (Stands self.new (L.now logs.new) (all_forced s)) }
+            → OnOk result (Stands self.new (L.now logs.new) (script_ended s)) }
         ensures crash { L.told → (s : State) → Stands self.old (L.now logs.old) s
             → LeavesForced self.old.log (L.now logs.old) (L.may logs.old)
             → OnErr result (LeavesOpening s.forced s (L.may logs.new)) }
         ensures kept { L.told → LeavesForced self.old.log (L.now logs.old) (L.may logs.old)
             → OnOk result (LeavesForced self.new.log (L.now logs.new) (L.may logs.new)) }
-        ensures onward { L.told → (s : State) → Stands self.old (L.now logs.old) s → IsOnward s (all_forced s) }
-        ensures quiet { L.told → (s : State) → Stands self.old (L.now logs.old) s → IsQuiet s (all_forced s)
+        ensures onward { L.told → (s : State) → Stands self.old (L.now logs.old) s → IsOnward s (script_ended s) }
+        ensures quiet { L.told → (s : State) → Stands self.old (L.now logs.old) s → IsQuiet s (script_ended s)
             → OnOk result (logs.new ≡ logs.old) }
-        ensures fails { L.told → (s : State) → Stands self.old (L.now logs.old) s → OnErr result (¬ (IsQuiet s (all_forced s))) }
+        ensures fails { L.told → (s : State) → Stands self.old (L.now logs.old) s → OnErr result (EndCallsLog s) }
         ensures cause { HasCause (L.faults logs.old) (L.faults logs.new) result }
     {
         laws();

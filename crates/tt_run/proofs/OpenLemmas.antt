@@ -19,13 +19,14 @@ use Rattle.tt_model.specs.Trail.{Trail}
 use Rattle.tt_recover.specs.Opening.{found_by, found_in, newest_first, opening}
 use Rattle.tt_engine.specs.OnwardLaws.{still_before}
 use Rattle.tt_engine.specs.OpeningLaws.{database_opens, found_is, read_is}
-use Rattle.tt_engine.specs.Prefixes.{IsSinceOpening, IsStill}
+use Rattle.tt_engine.specs.Prefixes.{IsSinceOpening, IsStill, opens, or_none}
 use Rattle.tt_engine.specs.Starts.{database, opened_in}
 use Rattle.tt_engine.specs.declared.refusal.OpenRefusal.{OpenRefusal}
 use Rattle.tt_run.specs.declared.status.Status.{Status}
 use Rattle.tt_run.specs.declared.status.Status.TheVariants.{Done, ScriptFault, AttributesFault, SinkFault, VolumeFault, NoMemory, Usage, Damaged, Exists, NoDatabase, BadAttribute, LogOut, ScriptTooLong}
 use Rattle.tt_run.specs.Openings.{EndedEarly, HasNewDatabase, IsBeforeLines, IsCreated, IsFaultOf, IsOpened, IsScriptRunEnd, LeavesNoOther, LeavesNoLog, mark_place, new_database}
-use Rattle.tt_run.specs.Runs.{IsRun, IsRunEnd}
+use Rattle.tt_run.specs.Loops.{IsRunEnd}
+use Rattle.tt_run.specs.Runs.{IsRun}
 use Rattle.tt_run.proofs.RunLemmas.{Outcomes, left_from}
 
 -- ---- the first log file
@@ -71,8 +72,12 @@ database_new : (files : Files) → log_of 0 files ≡ Ok nothing → database fi
 unfolding opening
 database_new files is = ap₂ opened_in (there files nothing is).is (ap found_in is)
 
+opens_new : (files : Files) → log_of 0 files ≡ Ok nothing → opens files ≡ Some new_database
+unfolding opening
+opens_new files is = ap (λ (r : Result Read LogRefusal). or_none (found_in r)) is
+
 pub new_made : (now : Files) (may : Outcomes) → log_of 0 now ≡ Ok nothing → ((k : ℕ) → 0 < k → k < 2 ^ 32 → now (LogFile k) ≡ None) → LeavesThis 0 (Ok nothing) may → HasNewDatabase now may
-new_made now may made alone leaves = (database_new now made, alone, λ files left. database_new files (leaves files left))
+new_made now may made alone leaves = (database_new now made, alone, (new_database, opens_new now made, λ files left. opens_new files (leaves files left)))
 
 -- a file that was sized and isn't there
 pub no_size : (o : Option (List ℕ)) → None ≡ option_map length o → o ≡ None
@@ -112,20 +117,36 @@ no_other_made old now may may' may'' keeps short none files left found is =
 -- ---- how a run may end
 
 -- once lines have begun
-pub not_before : (status : Status) (script sink logs : Type 0) → IsRunEnd status script sink logs → IsBeforeLines status → ⊥
-not_before Done script sink logs ends before = before
-not_before ScriptFault script sink logs ends before = before
-not_before SinkFault script sink logs ends before = before
-not_before ScriptTooLong script sink logs ends before = before
-not_before (VolumeFault stop) script sink logs ends before = before
-not_before AttributesFault script sink logs ends before = ends
-not_before NoMemory script sink logs ends before = ends
-not_before Usage script sink logs ends before = ends
-not_before (Damaged damage) script sink logs ends before = ends
-not_before Exists script sink logs ends before = ends
-not_before NoDatabase script sink logs ends before = ends
-not_before (BadAttribute name) script sink logs ends before = ends
-not_before LogOut script sink logs ends before = ends
+pub not_before : (status : Status) (script sink logs unplaced : Type 0) → IsRunEnd status script sink logs → IsBeforeLines status unplaced → ⊥
+not_before Done script sink logs unplaced ends before = before
+not_before ScriptFault script sink logs unplaced ends before = before
+not_before SinkFault script sink logs unplaced ends before = before
+not_before ScriptTooLong script sink logs unplaced ends before = before
+not_before (VolumeFault stop) script sink logs unplaced ends before = before
+not_before AttributesFault script sink logs unplaced ends before = ends
+not_before NoMemory script sink logs unplaced ends before = ends
+not_before Usage script sink logs unplaced ends before = ends
+not_before (Damaged damage) script sink logs unplaced ends before = ends
+not_before Exists script sink logs unplaced ends before = ends
+not_before NoDatabase script sink logs unplaced ends before = ends
+not_before (BadAttribute name) script sink logs unplaced ends before = ends
+not_before LogOut script sink logs unplaced ends before = ends
+
+-- where the Mark has no place, the status is LogOut
+pub out_before : (status : Status) (unplaced : Type 0) → IsBeforeLines status unplaced → IsBeforeLines status (status ≡ LogOut)
+out_before LogOut unplaced before = refl
+out_before Done unplaced before = absurd before
+out_before ScriptFault unplaced before = absurd before
+out_before SinkFault unplaced before = absurd before
+out_before ScriptTooLong unplaced before = absurd before
+out_before (VolumeFault stop) unplaced before = absurd before
+out_before AttributesFault unplaced before = tt
+out_before NoMemory unplaced before = tt
+out_before Usage unplaced before = tt
+out_before (Damaged damage) unplaced before = tt
+out_before Exists unplaced before = tt
+out_before NoDatabase unplaced before = tt
+out_before (BadAttribute name) unplaced before = tt
 
 opened_end : (settings : Settings) (found : Found) (status : Status) (script sink logs : Type 0) → IsSome (mark_place settings found) → IsRunEnd status script sink logs → IsOpened settings (Ok found) status
 opened_end settings found Done script sink logs place ends = place
@@ -153,8 +174,8 @@ opened_lines settings files found status script sink logs is place ends =
 pub opened_refused : (settings : Settings) (r : Result Found OpenRefusal) (refusal : OpenRefusal) (status : Status) → r ≡ Err refusal → IsOpened settings (Err refusal) status → IsOpened settings r status
 opened_refused settings r refusal status is so = subst (λ (r : Result Found OpenRefusal). IsOpened settings r status) (sym is) so
 
-pub opened_out : (settings : Settings) (files : Files) (found : Found) → opening files ≡ Ok found → mark_place settings found ≡ None → IsOpened settings (database files) LogOut
-opened_out settings files found is none = subst (λ (r : Result Found OpenRefusal). IsOpened settings r LogOut) (sym (database_found files found is)) none
+pub opened_out : (settings : Settings) (files : Files) (found : Found) → opening files ≡ Ok found → IsOpened settings (database files) LogOut
+opened_out settings files found is = subst (λ (r : Result Found OpenRefusal). IsOpened settings r LogOut) (sym (database_found files found is)) tt
 
 pub failed_volume : (settings : Settings) (r : Result Found OpenRefusal) → IsOpened settings r (VolumeFault Logs)
 failed_volume settings (Ok found) = tt
@@ -195,11 +216,11 @@ none_there (Some at) none some = let bad : ⊥ = cc in bad
 
 -- a run ends well where nothing failed
 pub completes : (bytes : List ℕ) (left : Option (List ℕ)) (settings : Settings) (found : Found) (start : State) (before after : Option (List ℕ)) (status : Status) (settled untouched : Type 0) (now_old now_new : Files) (may_old may_new : Outcomes)
-    (script attributes sink logs images backups : Type 0) → EndedEarly status untouched ⊎ IsRun bytes left start before after status settled now_old now_new may_old may_new → IsOpened settings (Ok found) status
+    (script attributes sink logs images backups : Type 0) → EndedEarly status settings found untouched settled now_old may_new ⊎ IsRun bytes left start before after status settled now_old now_new may_old may_new → IsOpened settings (Ok found) status
     → IsFaultOf status script attributes sink logs images backups → IsSome (mark_place settings found) → length bytes ≤ 2 ^ 30 → ¬ script → ¬ attributes → ¬ sink → ¬ logs → (status ≡ Done) ⊎ (status ≡ NoMemory)
 completes bytes left settings found start before after status settled untouched now_old now_new may_old may_new script attributes sink logs images backups ran opens fault place short no_script no_attributes no_sink no_logs = by status ran opens fault
   where
-    by : (status : Status) → EndedEarly status untouched ⊎ IsRun bytes left start before after status settled now_old now_new may_old may_new → IsOpened settings (Ok found) status → IsFaultOf status script attributes sink logs images backups → (status ≡ Done) ⊎ (status ≡ NoMemory)
+    by : (status : Status) → EndedEarly status settings found untouched settled now_old may_new ⊎ IsRun bytes left start before after status settled now_old now_new may_old may_new → IsOpened settings (Ok found) status → IsFaultOf status script attributes sink logs images backups → (status ≡ Done) ⊎ (status ≡ NoMemory)
     by Done ran opens fault = inl refl
     by NoMemory ran opens fault = inr refl
     by ScriptFault ran opens fault = absurd (no_script fault)
@@ -213,7 +234,8 @@ completes bytes left settings found start before after status settled untouched 
     by Exists ran opens fault = absurd opens
     by NoDatabase ran opens fault = absurd opens
     by (BadAttribute name) ran opens fault = absurd opens
-    by LogOut ran opens fault = absurd (none_there (mark_place settings found) opens place)
+    by LogOut (inl none) opens fault = absurd (none_there (mark_place settings found) none place)
+    by LogOut (inr run) opens fault = absurd run.run.ends.0
     by ScriptTooLong (inl early) opens fault = absurd early
     by ScriptTooLong (inr run) opens fault = let long = run.run.ends.0.0 in absurd (omega (arith, long, short))
 

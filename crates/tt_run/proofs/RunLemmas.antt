@@ -18,20 +18,21 @@ use Rattle.tt_value.specs.declared.reply.Reply.{Reply}
 use Rattle.tt_value.specs.declared.reply.Stop.TheVariants.{Logs, Images, Backups}
 use Rattle.tt_log.specs.Walk.{Files}
 use Rattle.tt_log.specs.Logs.{LeavesForced}
-use Rattle.tt_model.specs.State.{State, all_forced}
+use Rattle.tt_model.specs.State.{State}
 use Rattle.tt_engine.specs.declared.engine.Engine.{Engine}
 use Rattle.tt_engine.specs.declared.request.Request.{Request}
-use Rattle.tt_engine.specs.Engines.{Stands}
-use Rattle.tt_engine.specs.LogTrail.{HasFiles, IsQuiet}
+use Rattle.tt_engine.specs.Engines.{CallsLog, Stands}
+use Rattle.tt_engine.specs.LogTrail.{HasFiles}
 use Rattle.tt_engine.specs.OnwardLaws.{same_onward, still_before}
 use Rattle.tt_engine.specs.Prefixes.{IsOnward, IsSinceOpening, IsStill, LogsAreSettled, OpensForced}
-use Rattle.tt_engine.specs.Requests.{Answers, answer}
+use Rattle.tt_engine.specs.Requests.{Answers, answer, script_ended}
 use Rattle.tt_run.specs.declared.status.Status.{Status}
 use Rattle.tt_run.specs.declared.status.Status.TheVariants.{Done, ScriptFault, AttributesFault, SinkFault, VolumeFault, NoMemory, Usage, Damaged, Exists, NoDatabase, BadAttribute, LogOut, ScriptTooLong}
 use Rattle.tt_run.specs.declared.top_call.NextLine.TheVariants.{Asks, Skipped}
 use Rattle.tt_run.specs.Replies.{text_of}
 use Rattle.tt_run.specs.Requests.{IsRequest, AreRequests, is_answered}
-use Rattle.tt_run.specs.Runs.{texts, Goes, AreAnswered, AreLinesDone, HasRun, HasEnded, HasLeft, HasMoved, IsLeft, IsNext, IsRunning, IsStep}
+use Rattle.tt_run.specs.Loops.{HasEnded, HasMoved, IsNext, IsRunning, IsStep}
+use Rattle.tt_run.specs.Runs.{texts, Goes, AreAnswered, AreLinesDone, HasRun, HasLeft, IsLeft}
 
 abbrev Answered : Type 0
 Answered = List (Request × Reply)
@@ -229,7 +230,7 @@ failed_put script left rest start s behind before middle after old new request r
 
 -- a run whose log files failed in a line
 pub failed_line : (script left : List ℕ) (rest : Option (List ℕ)) (start s : State) (before after : Option (List ℕ)) (old new : LineReader) (request : Request) (run : IsRunning script left start before after old s)
-    → IsNext script run.lines (Ok (Asks request)) new rest → ¬ (IsQuiet s (answer request s).1) → HasRun script rest start before after (VolumeFault Logs) s (answer request s).1
+    → IsNext script run.lines (Ok (Asks request)) new rest → CallsLog request s → HasRun script rest start before after (VolumeFault Logs) s (answer request s).1
 failed_line script left rest start s before after old new request run (line, is, asks, (more, is_left, given)) calls =
     let (others, split) = first_lines script more (run.lines ++ line ∷ []) new given in
     record {
@@ -257,7 +258,7 @@ pub ended_script : (script left : List ℕ) (rest : Option (List ℕ)) (start s 
 ended_script script left rest start s before after reader old engine new now_old now_new may_old may_new status run done ended = by status ended
   where
     by : (status : Status) → HasEnded status s engine now_old now_new may_old may_new → IsStep script rest start s before after reader engine new now_old now_new may_old may_new (Some status)
-    by Done e = (s, all_forced s, record { lines = run.lines; answered = run.answered; answers = run.answers; ends = (done, refl); texts_written = run.texts_written }, e.0, e.1)
+    by Done e = (s, script_ended s, record { lines = run.lines; answered = run.answered; answers = run.answers; ends = (done, refl); texts_written = run.texts_written }, e.0, e.1)
     by (VolumeFault Logs) e = (s, s, record { lines = run.lines; answered = run.answered; answers = run.answers; ends = inl (done, refl, e.2); texts_written = run.texts_written }, e.0, e.1)
     by (VolumeFault Images) e = absurd e
     by (VolumeFault Backups) e = absurd e

@@ -20,6 +20,7 @@ use Rattle.tt_run.specs.declared.status.Status.TheVariants.{Done, ScriptFault, A
 use Rattle.tt_run.specs.Openings.{EndedEarly, IsCreateText, IsCreated, IsFaultOf, IsOpened}
 use Rattle.tt_run.specs.Settings.{IsFrom, IsReadEnd, IsRefusedFor, IsSaid, IsUnread}
 use Rattle.tt_run.proofs.OpenLemmas.{failed_attributes, wanted_memory}
+use Rattle.tt_run.proofs.RunLemmas.{Outcomes}
 
 -- of a text that is too long, one byte too many is enough
 cut_reads : (text : List ℕ) → length (take 65537 text) ≤ 65536 → take 65537 text ≡ text
@@ -142,10 +143,10 @@ ended_opened status fault settings r (unread is f) said = subst (λ (x : Status)
 ended_opened status fault settings r (unremembered is) said = subst (λ (x : Status). IsOpened settings r x) (sym is) (wanted_memory settings r)
 ended_opened status fault settings r (wrong name is) said = absurd (ok_not_wrong settings status name is said)
 
-pub ended_early : (status : Status) (fault failed : Type 0) (settings : Settings) → EndedSo status fault → IsSaid (Ok settings) (Err status) → EndedEarly status failed
-ended_early status fault failed settings (unread is f) said = subst (λ (x : Status). EndedEarly x failed) (sym is) tt
-ended_early status fault failed settings (unremembered is) said = subst (λ (x : Status). EndedEarly x failed) (sym is) tt
-ended_early status fault failed settings (wrong name is) said = absurd (ok_not_wrong settings status name is said)
+pub ended_early : (status : Status) (fault untouched settled : Type 0) (settings : Settings) (found : Found) (now : Files) (may : Outcomes) → EndedSo status fault → IsSaid (Ok settings) (Err status) → EndedEarly status settings found untouched settled now may
+ended_early status fault untouched settled settings found now may (unread is f) said = subst (λ (x : Status). EndedEarly x settings found untouched settled now may) (sym is) tt
+ended_early status fault untouched settled settings found now may (unremembered is) said = subst (λ (x : Status). EndedEarly x settings found untouched settled now may) (sym is) tt
+ended_early status fault untouched settled settings found now may (wrong name is) said = absurd (ok_not_wrong settings status name is said)
 
 pub ended_text : (status : Status) (fault untouched : Type 0) (given : Option (List ℕ)) → EndedSo status fault → untouched → IsCreateText given given status untouched
 ended_text status fault untouched given (unread is f) same = subst (λ (x : Status). IsCreateText given given x untouched) (sym is) same

@@ -1,3 +1,4 @@
+pub mod Loops
 pub mod Openings
 pub mod Replies
 pub mod Requests

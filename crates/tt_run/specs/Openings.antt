@@ -1,5 +1,5 @@
 -- How a run begins: a database that is made, or opened, or refused.
-use Rattle.std.specs.Prelude.{◌<◌, ◌^◌, ◌≡◌, ◌⊎◌, ℕ, List, [], ◌∷◌, ◌++◌, codes, take, Option, Some, None, IsSome, Result, Ok, Err}
+use Rattle.std.specs.Prelude.{◌<◌, ◌^◌, ◌≡◌, ◌⊎◌, ℕ, List, [], ◌∷◌, ◌++◌, codes, take, length, Option, Some, None, IsSome, Result, Ok, Err}
 use Rattle.std.specs.Io.KnownBytes.{Appends}
 use Rattle.tt_disk.specs.declared.volume.Name.{Name}
 use Rattle.tt_disk.specs.declared.volume.Name.TheVariants.{Log as LogFile}
@@ -13,7 +13,9 @@ use Rattle.tt_log.specs.Walk.{Files}
 use Rattle.tt_log.specs.Logs.{MayLeave}
 use Rattle.tt_model.specs.Found.{Found}
 use Rattle.tt_recover.specs.Opening.{found_by, opening}
-use Rattle.tt_engine.specs.Starts.{database}
+use Rattle.tt_engine.specs.Prefixes.{LeavesOpening, LogsAreSettled}
+use Rattle.tt_engine.specs.Starts.{begun_over, database}
+use Rattle.tt_set.specs.Attributes.{Says}
 use Rattle.tt_engine.specs.declared.refusal.OpenRefusal.{OpenRefusal}
 use Rattle.tt_engine.specs.declared.refusal.OpenRefusal.TheVariants as refusal
 use Rattle.tt_run.specs.declared.status.Status.{Status}
@@ -21,17 +23,17 @@ use Rattle.tt_run.specs.declared.status.Status.TheVariants.{Done, ScriptFault, A
 
 -- ---- statuses
 
--- statuses that come before any line was read or any reply written, and before any log file changed
-abbrev pub IsBeforeLines : Status → Type 0
-IsBeforeLines AttributesFault = Unit {0}
-IsBeforeLines NoMemory = Unit {0}
-IsBeforeLines Usage = Unit {0}
-IsBeforeLines (Damaged damage) = Unit {0}
-IsBeforeLines Exists = Unit {0}
-IsBeforeLines NoDatabase = Unit {0}
-IsBeforeLines (BadAttribute name) = Unit {0}
-IsBeforeLines LogOut = Unit {0}
-IsBeforeLines _ = ⊥
+-- statuses that come before any line was read or any reply written, and before any log file changed; LogOut where this is so
+abbrev pub IsBeforeLines : Status → Type 0 → Type 0
+IsBeforeLines AttributesFault unplaced = Unit {0}
+IsBeforeLines NoMemory unplaced = Unit {0}
+IsBeforeLines Usage unplaced = Unit {0}
+IsBeforeLines (Damaged damage) unplaced = Unit {0}
+IsBeforeLines Exists unplaced = Unit {0}
+IsBeforeLines NoDatabase unplaced = Unit {0}
+IsBeforeLines (BadAttribute name) unplaced = Unit {0}
+IsBeforeLines LogOut unplaced = unplaced
+IsBeforeLines _ unplaced = ⊥
 
 -- where a device failed, this is so of its count
 abbrev pub IsFaultOf : Status → Type 0 → Type 0 → Type 0 → Type 0 → Type 0 → Type 0 → Type 0
@@ -80,27 +82,38 @@ status_of refusal.NoMemory = NoMemory
 abbrev pub mark_place : Settings → Found → Option Position
 mark_place settings found = place_of found.end (length_of Mark) settings.log_file_size
 
--- How a run ended where the database was opened as this: what can't be opened is refused so, and where there is no place for a Mark,
--- no line is done. The attributes, memory or the log files may have failed before.
+-- How a run may end where the database was opened as this: what can't be opened is refused so, and where there is no place for a
+-- Mark, no line is done. The attributes, memory or the log files may have failed before.
 abbrev pub IsOpened : Settings → Result Found OpenRefusal → Status → Type 0
 IsOpened settings (Err refusal) status = (status ≡ status_of refusal) ⊎ FailedEarly status
 IsOpened settings (Ok found) Done = IsSome (mark_place settings found)
 IsOpened settings (Ok found) ScriptFault = IsSome (mark_place settings found)
 IsOpened settings (Ok found) SinkFault = IsSome (mark_place settings found)
 IsOpened settings (Ok found) ScriptTooLong = IsSome (mark_place settings found)
-IsOpened settings (Ok found) LogOut = mark_place settings found ≡ None
+IsOpened settings (Ok found) LogOut = Unit {0}
 IsOpened settings (Ok found) AttributesFault = Unit {0}
 IsOpened settings (Ok found) NoMemory = Unit {0}
 IsOpened settings (Ok found) (VolumeFault Logs) = Unit {0}
 IsOpened settings (Ok found) _ = ⊥
 
--- A run ended before its first line: where the log files failed at opening, this is so.
-abbrev pub EndedEarly : Status → Type 0 → Type 0
-EndedEarly AttributesFault failed = Unit {0}
-EndedEarly NoMemory failed = Unit {0}
-EndedEarly LogOut failed = Unit {0}
-EndedEarly (VolumeFault Logs) failed = failed
-EndedEarly _ failed = ⊥
+-- The text of the attributes is right and the database opens, but the Mark has no place.
+pub record HasNoPlace (attributes : Option (List ℕ)) (files : Files) : Type 0 where
+  pub text : List ℕ
+  pub settings : Settings
+  pub found : Found
+  pub read : attributes ≡ Some text
+  pub says : Says text (Ok settings)
+  pub opens : database files ≡ Ok found
+  pub none : mark_place settings found ≡ None
+
+-- A run over what was found ended before its first line: in the attributes, for want of memory, since the Mark has no place, or in
+-- the log files. There a crash leaves what was found, and perhaps the Mark.
+abbrev pub EndedEarly : Status → Settings → Found → Type 0 → Type 0 → Files → (Name → Option (List ℕ) → Type 0) → Type 0
+EndedEarly AttributesFault settings found untouched settled now may = Unit {0}
+EndedEarly NoMemory settings found untouched settled now may = Unit {0}
+EndedEarly LogOut settings found untouched settled now may = mark_place settings found ≡ None
+EndedEarly (VolumeFault Logs) settings found untouched settled now may = untouched × (settled → LeavesOpening (length found.entries) (begun_over settings now found) may)
+EndedEarly _ settings found untouched settled now may = ⊥
 
 -- ---- `create DIR`
 
@@ -108,9 +121,9 @@ EndedEarly _ failed = ⊥
 abbrev pub new_database : Found
 new_database = found_by [] (position 0 0)
 
--- it stands in these files, without another log file, and in each map of files that a crash may leave
+-- it stands in these files, without another log file, and opening finds the same in each map of files that a crash may leave
 abbrev pub HasNewDatabase : Files → (Name → Option (List ℕ) → Type 0) → Type 0
-HasNewDatabase now may = (database now ≡ Ok new_database) × ((k : ℕ) → 0 < k → k < 2 ^ 32 → now (LogFile k) ≡ None) × ((files : Files) → MayLeave may files → database files ≡ Ok new_database)
+HasNewDatabase now may = (database now ≡ Ok new_database) × ((k : ℕ) → 0 < k → k < 2 ^ 32 → now (LogFile k) ≡ None) × LogsAreSettled now may
 
 -- How `create` ended where the first log file was this: where it was there, it is refused; else a new database was made, unless the
 -- log files failed. The attributes or memory may have failed before.

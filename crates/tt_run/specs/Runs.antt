@@ -1,25 +1,18 @@
 -- What a run of a script writes, and what it leaves of the log files.
-use Rattle.std.specs.Prelude.{◌≤◌, ◌≡◌, ◌<◌, ◌-◌, ◌⊎◌, ℕ, List, [], ◌∷◌, ◌++◌, length, take, map, flat_map, filter, true, false, Option, Some, None, Result, Ok, Err}
+use Rattle.std.specs.Prelude.{◌≤◌, ◌≡◌, ◌<◌, ◌-◌, ◌⊎◌, ℕ, List, [], ◌∷◌, ◌++◌, length, take, map, flat_map, filter, true, Option, Some}
 use Rattle.std.specs.Io.KnownBytes.{Appends}
 use Rattle.tt_disk.specs.Volume.{Keeps}
 use Rattle.tt_disk.specs.declared.volume.Name.{Name}
-use Rattle.tt_flow.specs.Reading.{HasGiven, HasGivenTold}
 use Rattle.tt_flow.specs.Script.{script_lines, ended_lines, script_most}
-use Rattle.tt_flow.specs.declared.lines.LineReader.{LineReader}
 use Rattle.tt_value.specs.declared.reply.Reply.{Reply}
 use Rattle.tt_value.specs.declared.reply.Stop.TheVariants.{Logs}
 use Rattle.tt_log.specs.Walk.{Files}
-use Rattle.tt_log.specs.Logs.{LeavesForced}
-use Rattle.tt_model.specs.State.{State, all_forced}
-use Rattle.tt_engine.specs.declared.engine.Engine.{Engine}
+use Rattle.tt_model.specs.State.{State}
 use Rattle.tt_engine.specs.declared.request.Request.{Request}
-use Rattle.tt_engine.specs.Engines.{Stands}
-use Rattle.tt_engine.specs.LogTrail.{HasFiles, IsQuiet}
+use Rattle.tt_engine.specs.Engines.{CallsLog, EndCallsLog}
+use Rattle.tt_engine.specs.LogTrail.{HasFiles}
 use Rattle.tt_engine.specs.Prefixes.{IsOnward, IsStill, LeavesOpening, LogsAreSettled, OpensForced}
-use Rattle.tt_engine.specs.Requests.{Answers, answer}
-use Rattle.tt_disk.specs.declared.volume.Failed.{Failed}
-use Rattle.tt_run.specs.declared.top_call.NextLine.{NextLine}
-use Rattle.tt_run.specs.declared.top_call.NextLine.TheVariants.{Asks, Skipped, End, ScriptTooLong as TooLong}
+use Rattle.tt_engine.specs.Requests.{Answers, answer, script_ended}
 use Rattle.tt_run.specs.declared.status.Status.{Status}
 use Rattle.tt_run.specs.declared.status.Status.TheVariants.{Done, ScriptFault, SinkFault, VolumeFault, ScriptTooLong}
 use Rattle.tt_run.specs.Replies.{text_of}
@@ -50,7 +43,7 @@ AreLinesDone script left lines ScriptFault = (rest : List ℕ) × (left ≡ Some
 AreLinesDone script left lines SinkFault = (more : List (Option (List ℕ))) × (script_lines script ≡ lines ++ more)
 AreLinesDone script left lines _ = ⊥
 
--- A line behind these is one that is answered. From this state it leads to that one, and forces something or begins a file.
+-- A line behind these is one that is answered. From this state it leads to that one, and it has calls on the log files.
 pub record LeadsTo (script : List ℕ) (lines : List (Option (List ℕ))) (s last : State) : Type 0 where
   pub line : Option (List ℕ)
   pub more : List (Option (List ℕ))
@@ -59,14 +52,13 @@ pub record LeadsTo (script : List ℕ) (lines : List (Option (List ℕ))) (s las
   pub is_one : is_answered line ≡ true
   pub asks : IsRequest line request
   pub leads : last ≡ (answer request s).1
-  pub calls : ¬ (IsQuiet s last)
+  pub calls : CallsLog request s
 
--- In which state the run ended so, where the lines that were answered left the first one. The end of the script forces all. A fault
--- of the log files came at the end of the script, where something was to be forced, or in the next line, which had then made a part
--- of its entries.
+-- In which state the run ended so, where the lines that were answered left the first one. A fault of the log files came at the end of
+-- the script, with all lines done, or in the next line, which had then made a part of its entries; and either has calls on them.
 abbrev pub EndsIn : List ℕ → Option (List ℕ) → List (Option (List ℕ)) → State → State → Status → Type 0
-EndsIn script left lines s last Done = AreLinesDone script left lines Done × (last ≡ all_forced s)
-EndsIn script left lines s last (VolumeFault Logs) = (AreLinesDone script left lines Done × (last ≡ s) × (¬ (IsQuiet s (all_forced s)))) ⊎ LeadsTo script lines s last
+EndsIn script left lines s last Done = AreLinesDone script left lines Done × (last ≡ script_ended s)
+EndsIn script left lines s last (VolumeFault Logs) = (AreLinesDone script left lines Done × (last ≡ s) × EndCallsLog s) ⊎ LeadsTo script lines s last
 EndsIn script left lines s last status = AreLinesDone script left lines status × (last ≡ s)
 
 -- What was written when the run ended so: the text of each reply; of the last one a part, where the sink failed.
@@ -107,63 +99,3 @@ pub record IsRun (script : List ℕ) (left : Option (List ℕ)) (start : State) 
   pub run : HasRun script left start before after status answered_state last_state
   pub onward : IsOnward start last_state
   pub logs : HasLeft status answered_state last_state settled now_old now_new may_old may_new
-
--- ---- while it goes on
-
--- The lines of a script were answered so, the texts of the replies were written, and the run goes on from this state.
-pub record IsRunning (script left : List ℕ) (start : State) (before after : Option (List ℕ)) (reader : LineReader) (s : State) : Type 0 where
-  pub lines : List (Option (List ℕ))
-  pub answered : List (Request × Reply)
-  pub given : HasGiven script lines reader left
-  pub answers : AreAnswered start lines answered s
-  pub texts_written : Appends before after (texts answered)
-
--- what came next in a script of which these lines were given: a line that is skipped, one that asks for something, or none any more
-abbrev pub IsNext : List ℕ → List (Option (List ℕ)) → Result NextLine Failed → LineReader → Option (List ℕ) → Type 0
-IsNext script given (Ok Skipped) reader left = (line : Option (List ℕ)) × (is_answered line ≡ false) × HasGivenTold script (given ++ line ∷ []) reader left
-IsNext script given (Ok (Asks request)) reader left = (line : Option (List ℕ)) × (is_answered line ≡ true) × IsRequest line request × HasGivenTold script (given ++ line ∷ []) reader left
-IsNext script given (Ok End) reader left = AreLinesDone script left given Done
-IsNext script given (Ok TooLong) reader left = AreLinesDone script left given ScriptTooLong
-IsNext script given (Err failed) reader left = AreLinesDone script left given ScriptFault
-
--- there was a line
-abbrev pub IsLine : NextLine → Type 0
-IsLine Skipped = Unit {0}
-IsLine (Asks request) = Unit {0}
-IsLine _ = ⊥
-
--- Once lines have begun a run ends at the end of its script, or where the script, the sink or the log files failed.
-abbrev pub IsRunEnd : Status → Type 0 → Type 0 → Type 0 → Type 0
-IsRunEnd Done script sink logs = Unit {0}
-IsRunEnd ScriptTooLong script sink logs = Unit {0}
-IsRunEnd ScriptFault script sink logs = script
-IsRunEnd SinkFault script sink logs = sink
-IsRunEnd (VolumeFault Logs) script sink logs = logs
-IsRunEnd _ script sink logs = ⊥
-
--- The engine and the log files stand for the state, where they stood for an earlier one before.
-pub record HasMoved (s after : State) (old new : Engine) (now_old now_new : Files) (may_old may_new : Name → Option (List ℕ) → Type 0) : Type 0 where
-  pub stands : Stands new now_new after
-  pub kept : LeavesForced old.log now_old may_old → LeavesForced new.log now_new may_new
-  pub onward : IsOnward s after
-  pub still : IsStill after → IsStill s × Keeps now_old now_new may_old may_new
-
--- a run ends so at the end of its script
-abbrev pub IsEnd : Status → Type 0 → Type 0
-IsEnd Done logs = Unit {0}
-IsEnd (VolumeFault Logs) logs = logs
-IsEnd _ logs = ⊥
-
--- what is left then, and the state in which it ended
-abbrev pub HasEnded : Status → State → Engine → Files → Files → (Name → Option (List ℕ) → Type 0) → (Name → Option (List ℕ) → Type 0) → Type 0
-HasEnded Done s old now_old now_new may_old may_new = HasLeft Done s (all_forced s) (LeavesForced old.log now_old may_old) now_old now_new may_old may_new × IsOnward s (all_forced s)
-HasEnded (VolumeFault Logs) s old now_old now_new may_old may_new = HasLeft (VolumeFault Logs) s s (LeavesForced old.log now_old may_old) now_old now_new may_old may_new × IsOnward s s × (¬ (IsQuiet s (all_forced s)))
-HasEnded _ s old now_old now_new may_old may_new = ⊥
-
--- After one line more, which was answered or skipped, the run goes on, or has ended.
-abbrev pub IsStep : List ℕ → Option (List ℕ) → State → State → Option (List ℕ) → Option (List ℕ) → LineReader → Engine → Engine → Files → Files → (Name → Option (List ℕ) → Type 0) → (Name → Option (List ℕ) → Type 0) → Option Status → Type 0
-IsStep script left start s before after reader old new now_old now_new may_old may_new None =
-    (state : State) × (rest : List ℕ) × (left ≡ Some rest) × IsRunning script rest start before after reader state × HasMoved s state old new now_old now_new may_old may_new
-IsStep script left start s before after reader old new now_old now_new may_old may_new (Some status) =
-    (answered last : State) × HasRun script left start before after status answered last
-    × HasLeft status answered last (LeavesForced old.log now_old may_old) now_old now_new may_old may_new × IsOnward s last

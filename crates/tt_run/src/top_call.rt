@@ -10,12 +10,13 @@ ghost use Rattle.tt_log.specs.Logs.{IsOpen, LeavesForced};
 ghost use Rattle.tt_model.specs.Found.{Found};
 ghost use Rattle.tt_model.specs.State.{State};
 ghost use Rattle.tt_engine.specs.Engines.{Stands};
-ghost use Rattle.tt_engine.specs.Prefixes.{IsSinceOpening, LeavesOpening, LogsAreSettled};
+ghost use Rattle.tt_engine.specs.Prefixes.{IsSinceOpening, LogsAreSettled};
 ghost use Rattle.tt_engine.specs.Requests.{IsGiven};
 ghost use Rattle.tt_engine.specs.Starts.{begun_over, database};
-ghost use Rattle.tt_run.specs.Openings.{EndedEarly, IsBeforeLines, IsCreateEnd, IsCreateText, IsCreated, IsFaultOf, IsOpened, IsScriptRunEnd, LeavesNoOther, LeavesNoLog, mark_place};
+ghost use Rattle.tt_run.specs.Loops.{HasEnded, IsEnd, IsLine, IsNext, IsRunEnd, IsRunning, IsStep};
+ghost use Rattle.tt_run.specs.Openings.{EndedEarly, HasNoPlace, IsBeforeLines, IsCreateEnd, IsCreateText, IsCreated, IsFaultOf, IsOpened, IsScriptRunEnd, LeavesNoOther, LeavesNoLog, mark_place};
 ghost use Rattle.tt_run.specs.Replies.{text_of};
-ghost use Rattle.tt_run.specs.Runs.{HasEnded, IsEnd, IsLine, IsNext, IsRun, IsRunEnd, IsRunning, IsStep};
+ghost use Rattle.tt_run.specs.Runs.{IsRun};
 ghost use Rattle.tt_run.specs.Settings.{IsBadSo, IsRefusedFor};
 ghost use Rattle.tt_run.specs.Words.{form_of};
 
@@ -44,7 +45,7 @@ enum NextLine {
 }
 
 /// Does what the words ask for: `create DIR` makes a database, `run DIR` does the lines of the script and writes the reply to each.
-/// The attributes are read first.
+/// The attributes are read before either.
 pub fn run<
     R: Threads,
     S: Source,
@@ -73,7 +74,8 @@ pub fn run<
         → Says text (Err name) → IsRefusedFor name result }
 
     // Nothing was read of the script, written or changed where a status comes before the lines.
-    ensures unbegun { IsBeforeLines result → (script.new ≡ script.old) × (sink.new ≡ sink.old)
+    ensures unbegun { IsBeforeLines result (HasNoPlace (A.left attributes.old) (L.now logs.old))
+        → (script.new ≡ script.old) × (sink.new ≡ sink.old)
         × (L.told → Keeps (L.now logs.old) (L.now logs.new) (L.may logs.old) (L.may logs.new)) }
 
     // The words come first, and `create DIR` reads no script.
@@ -105,13 +107,12 @@ pub fn run<
         × Keeps (L.now logs.old) (L.now logs.new) (L.may logs.old) (L.may logs.new) }
 
     // The lines that were answered, what was written, what the log files have and what a crash leaves, all of one run of the model
-    // from the state that opening found.
+    // from the state that opening found; unless it ended before the lines.
     ensures ran { (bytes text : List ℕ) (settings : Settings) (found : Found) → L.told
         → form_of (map string_bytes words.now) ≡ Some Action.Run → S.left script.old ≡ Some bytes
         → A.left attributes.old ≡ Some text → Says text (Ok settings) → database (L.now logs.old) ≡ Ok found
-        → EndedEarly result ((script.new ≡ script.old) × (sink.new ≡ sink.old)
-        × (LogsAreSettled (L.now logs.old) (L.may logs.old)
-        → LeavesOpening (length found.entries) (begun_over settings (L.now logs.old) found) (L.may logs.new)))
+        → EndedEarly result settings found ((script.new ≡ script.old) × (sink.new ≡ sink.old))
+        (LogsAreSettled (L.now logs.old) (L.may logs.old)) (L.now logs.old) (L.may logs.new)
         ⊎ IsRun bytes (S.left script.new) (begun_over settings (L.now logs.old) found) (K.given sink.old) (K.given sink.new) result
         (LogsAreSettled (L.now logs.old) (L.may logs.old)) (L.now logs.old) (L.now logs.new) (L.may logs.old) (L.may logs.new) }
 
@@ -162,7 +163,7 @@ fn create<K: Sink, L: Volume>(sink: &mut K, logs: &mut L) -> Status
         → Keeps (L.now logs.old) (L.now logs.new) (L.may logs.old) (L.may logs.new) }
     ensures no_other { L.told → LeavesNoLog (L.may logs.old) → LeavesNoOther (L.may logs.new) }
     ensures text { IsCreateText (K.given sink.old) (K.given sink.new) result (sink.new ≡ sink.old) }
-    ensures unbegun { IsBeforeLines result → (sink.new ≡ sink.old)
+    ensures unbegun { IsBeforeLines result (result ≡ Status.LogOut) → (sink.new ≡ sink.old)
         × (L.told → Keeps (L.now logs.old) (L.now logs.new) (L.may logs.old) (L.may logs.new)) }
     ensures statuses { IsCreateEnd result (Rose (K.faults sink.old) (K.faults sink.new)) (Rose (L.faults logs.old) (L.faults logs.new)) }
 {
@@ -190,15 +191,14 @@ fn run_script<S: Source, K: Sink, L: Volume>(
 ) -> Status
     requires settings { AreInRange settings.now }
     ensures ran { (bytes : List ℕ) (found : Found) → L.told → S.left script.old ≡ Some bytes → database (L.now logs.old) ≡ Ok found
-        → EndedEarly result ((script.new ≡ script.old) × (sink.new ≡ sink.old)
-        × (LogsAreSettled (L.now logs.old) (L.may logs.old)
-        → LeavesOpening (length found.entries) (begun_over settings.now (L.now logs.old) found) (L.may logs.new)))
+        → EndedEarly result settings.now found ((script.new ≡ script.old) × (sink.new ≡ sink.old))
+        (LogsAreSettled (L.now logs.old) (L.may logs.old)) (L.now logs.old) (L.may logs.new)
         ⊎ IsRun bytes (S.left script.new) (begun_over settings.now (L.now logs.old) found) (K.given sink.old) (K.given sink.new) result
         (LogsAreSettled (L.now logs.old) (L.may logs.old)) (L.now logs.old) (L.now logs.new) (L.may logs.old) (L.may logs.new) }
     ensures opened { L.told → IsOpened settings.now (database (L.now logs.old)) result }
     ensures refused { (refusal : OpenRefusal) → L.told → database (L.now logs.old) ≡ Err refusal → (script.new ≡ script.old)
         × (sink.new ≡ sink.old) × Keeps (L.now logs.old) (L.now logs.new) (L.may logs.old) (L.may logs.new) }
-    ensures unbegun { IsBeforeLines result → (script.new ≡ script.old) × (sink.new ≡ sink.old)
+    ensures unbegun { IsBeforeLines result (result ≡ Status.LogOut) → (script.new ≡ script.old) × (sink.new ≡ sink.old)
         × (L.told → Keeps (L.now logs.old) (L.now logs.new) (L.may logs.old) (L.may logs.new)) }
     ensures statuses { IsScriptRunEnd result (Rose (S.faults script.old) (S.faults script.new))
         (Rose (K.faults sink.old) (K.faults sink.new)) (Rose (L.faults logs.old) (L.faults logs.new)) }

@@ -4,7 +4,7 @@ use Rattle.tt_disk.specs.declared.volume.Failed.{Failed}
 use Rattle.tt_engine.specs.OnwardLaws.{same_onward, still_before}
 use Rattle.tt_engine.specs.Requests.{answer}
 use Rattle.tt_run.specs.declared.top_call.NextLine.{NextLine}
-use Rattle.tt_run.specs.Runs.{IsNext}
+use Rattle.tt_run.specs.Loops.{IsNext}
 use Rattle.tt_run.proofs.RunLemmas.{begins, ended_script, failed_line, failed_put, failed_script, goes_on, goes_past, keeps_same, left_here, long_script}
 use Rattle.tt_run.proofs.top_call.do_line.Goals as goal
 
@@ -46,7 +46,7 @@ returns-in-Err-step-clause-step g c = λ told bytes left start s before is_left 
       s,
       (answer c.in-Ok-Asks.request s).1,
       failed_line bytes left (g.S.Source.left c.next_line.new.script) start s before (g.K.Sink.given c.args.sink.now) c.args.reader.now c.next_line.new.reader c.in-Ok-Asks.request run next
-          (c.in-Err-step.ensures.fails told s stands).moves,
+          (c.in-Err-step.ensures.fails told s stands),
       (λ kept. (c.in-Err-step.ensures.crash told s stands kept).leaves),
       c.step.ensures.onward told s stands,
     )

@@ -4,7 +4,7 @@ use Rattle.tt_log.specs.Logs.{IsOpen}
 use Rattle.tt_model.specs.State.{State}
 use Rattle.tt_engine.specs.Engines.{Stands}
 use Rattle.tt_engine.specs.Prefixes.{IsSinceOpening}
-use Rattle.tt_run.specs.Runs.{HasMoved, IsRunning}
+use Rattle.tt_run.specs.Loops.{HasMoved, IsRunning}
 use Rattle.tt_run.proofs.top_call.do_lines.Given as goal
 
 abbrev pub decreases-lines : goal.decreases-lines

@@ -1,13 +1,14 @@
-use Rattle.std.proofs.Common.{◌≡◌, ◌⊎◌, ◌∙◌, inl, length, refl, sym, subst, Ok, Err, Result}
-use Rattle.tt_engine.specs.Prefixes.{LeavesOpening, LogsAreSettled}
-use Rattle.tt_engine.specs.Starts.{begun_over, database}
+use Rattle.std.proofs.Common.{◌≡◌, ◌⊎◌, ◌∙◌, inl, refl, sym, subst, Ok, Err, Result}
+use Rattle.tt_engine.specs.Prefixes.{LogsAreSettled}
+use Rattle.tt_engine.specs.Starts.{begun_over}
 use Rattle.tt_run.specs.Runs.{IsRun}
 use Rattle.tt_model.specs.Found.{Found}
 use Rattle.tt_set.specs.declared.settings.Settings.{Settings}
 use Rattle.tt_engine.specs.declared.refusal.OpenRefusal.{OpenRefusal}
-use Rattle.tt_run.proofs.OpenLemmas.{completes, none_left, script_run_cause}
+use Rattle.tt_run.proofs.OpenLemmas.{completes, none_left, out_before, script_run_cause}
 use Rattle.tt_run.proofs.SettingsLemmas.{ended_bad, ended_cause, ended_complete, ended_created, ended_early, ended_not_usage, ended_opened, ended_so, ended_text, said_not_bad, same_settings}
-use Rattle.tt_run.specs.Openings.{EndedEarly, IsOpened}
+use Rattle.std.specs.Prelude.{IsSome}
+use Rattle.tt_run.specs.Openings.{EndedEarly, IsOpened, mark_place}
 use Rattle.tt_run.proofs.top_call.run.Goals as goal
 
 pub returns-in-Err-clause-usage : goal.returns-in-Err-clause-usage
@@ -35,7 +36,7 @@ pub returns-in-Err-clause-opened : goal.returns-in-Err-clause-opened
 returns-in-Err-clause-opened g c = λ text settings known form told says. ended_opened c.in-Err.status _ settings _ (ended_so c.in-Err.status _ c.in-Err.ensures.cause) (c.in-Err.ensures.only text (Ok settings) told says)
 
 pub returns-in-Err-clause-ran : goal.returns-in-Err-clause-ran
-returns-in-Err-clause-ran g c = λ bytes text settings found known form script told says is. inl (ended_early c.in-Err.status _ _ settings (ended_so c.in-Err.status _ c.in-Err.ensures.cause) (c.in-Err.ensures.only text (Ok settings) told says))
+returns-in-Err-clause-ran g c = λ bytes text settings found known form script told says is. inl (ended_early c.in-Err.status _ _ _ settings found _ _ (ended_so c.in-Err.status _ c.in-Err.ensures.cause) (c.in-Err.ensures.only text (Ok settings) told says))
 
 pub returns-in-Err-clause-complete_run : goal.returns-in-Err-clause-complete_run
 returns-in-Err-clause-complete_run g c = λ bytes text settings found known form script told says is place short no_script no_attributes no_sink no_logs.
@@ -58,15 +59,22 @@ pub returns-in-Run-clause-ran : goal.returns-in-Run-clause-ran
 returns-in-Run-clause-ran g c = λ bytes text settings found known form script told says is.
     let same = same_settings settings c.in-Ok.settings (c.in-Ok.ensures.only text (Ok settings) told says) in
     let settled : Type 0 = LogsAreSettled (g.L.Volume.now c.args.logs.now) (g.L.Volume.may c.args.logs.now) in
-    subst (λ (s : Settings). EndedEarly c.run_script.result ((c.run_script.new.script ≡ c.args.script.now) × (c.run_script.new.sink ≡ c.args.sink.now)
-    × (settled → LeavesOpening (length found.entries) (begun_over s (g.L.Volume.now c.args.logs.now) found) (g.L.Volume.may c.run_script.new.logs)))
+    subst (λ (s : Settings). EndedEarly c.run_script.result s found ((c.run_script.new.script ≡ c.args.script.now) × (c.run_script.new.sink ≡ c.args.sink.now)) settled (g.L.Volume.now c.args.logs.now) (g.L.Volume.may c.run_script.new.logs)
     ⊎ IsRun bytes (g.S.Source.left c.run_script.new.script) (begun_over s (g.L.Volume.now c.args.logs.now) found) (g.K.Sink.given c.args.sink.now) (g.K.Sink.given c.run_script.new.sink) c.run_script.result
     settled (g.L.Volume.now c.args.logs.now) (g.L.Volume.now c.run_script.new.logs) (g.L.Volume.may c.args.logs.now) (g.L.Volume.may c.run_script.new.logs)) (sym same) (c.run_script.ensures.ran bytes found known script is)
 
 pub returns-in-Run-clause-complete_run : goal.returns-in-Run-clause-complete_run
 returns-in-Run-clause-complete_run g c = λ bytes text settings found known form script told says is place short no_script no_attributes no_sink no_logs.
     let same = same_settings settings c.in-Ok.settings (c.in-Ok.ensures.only text (Ok settings) told says) in
-    let opened = subst (λ (s : Settings). IsOpened s (database (g.L.Volume.now c.args.logs.now)) c.run_script.result) (sym same) (c.run_script.ensures.opened known) in
-    completes bytes (g.S.Source.left c.run_script.new.script) settings found (begun_over c.in-Ok.settings (g.L.Volume.now c.args.logs.now) found) (g.K.Sink.given c.args.sink.now) (g.K.Sink.given c.run_script.new.sink) c.run_script.result _ _
+    let settled : Type 0 = LogsAreSettled (g.L.Volume.now c.args.logs.now) (g.L.Volume.may c.args.logs.now) in
+    let untouched : Type 0 = (c.run_script.new.script ≡ c.args.script.now) × (c.run_script.new.sink ≡ c.args.sink.now) in
+    completes bytes (g.S.Source.left c.run_script.new.script) c.in-Ok.settings found (begun_over c.in-Ok.settings (g.L.Volume.now c.args.logs.now) found) (g.K.Sink.given c.args.sink.now) (g.K.Sink.given c.run_script.new.sink) c.run_script.result settled untouched
     (g.L.Volume.now c.args.logs.now) (g.L.Volume.now c.run_script.new.logs) (g.L.Volume.may c.args.logs.now) (g.L.Volume.may c.run_script.new.logs) _ ⊥ _ _ ⊥ ⊥ (c.run_script.ensures.ran bytes found known script is)
-    (subst (λ (r : Result Found OpenRefusal). IsOpened settings r c.run_script.result) is opened) (script_run_cause c.run_script.result _ _ _ c.run_script.ensures.statuses) place short no_script (λ none. none) no_sink no_logs
+    (subst (λ (r : Result Found OpenRefusal). IsOpened c.in-Ok.settings r c.run_script.result) is (c.run_script.ensures.opened known)) (script_run_cause c.run_script.result _ _ _ c.run_script.ensures.statuses)
+    (subst (λ (s : Settings). IsSome (mark_place s found)) same place) short no_script (λ none. none) no_sink no_logs
+
+pub returns-in-Create-clause-unbegun : goal.returns-in-Create-clause-unbegun
+returns-in-Create-clause-unbegun g c = λ before. let same = c.create.ensures.unbegun (out_before c.create.result _ before) in (refl, same.0, same.1)
+
+pub returns-in-Run-clause-unbegun : goal.returns-in-Run-clause-unbegun
+returns-in-Run-clause-unbegun g c = λ before. c.run_script.ensures.unbegun (out_before c.run_script.result _ before)

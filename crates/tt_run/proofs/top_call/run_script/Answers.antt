@@ -1,10 +1,11 @@
-use Rattle.std.proofs.Common.{inl, inr, refl, subst}
+use Rattle.std.proofs.Common.{◌≡◌, None, inl, inr, refl, subst}
 use Rattle.tt_model.specs.Found.{Found}
 use Rattle.tt_engine.specs.OpeningLaws.{database_opens, settled_reads}
 use Rattle.tt_log.specs.Logs.{LeavesForced}
 use Rattle.tt_engine.specs.Prefixes.{LogsAreSettled}
 use Rattle.tt_engine.specs.Starts.{IsRefusedSo, begun_over}
 use Rattle.tt_engine.specs.declared.refusal.OpenRefusal.{OpenRefusal}
+use Rattle.tt_run.specs.Openings.{mark_place}
 use Rattle.tt_run.specs.Runs.{IsRun}
 use Rattle.tt_run.proofs.OpenLemmas.{found_not_refused, opened_lines, opened_out, refused_log, run_over, same_found}
 use Rattle.tt_run.proofs.top_call.run_script.Goals as goal
@@ -24,7 +25,7 @@ returns-in-Ok-clause-ran g c = λ bytes found told is_script is.
 
 pub returns-in-Err-Failed-clause-ran : goal.returns-in-Err-Failed-clause-ran
 returns-in-Err-Failed-clause-ran g c = λ bytes found told is_script is.
-    inl (refl, refl, λ settled. c.start.ensures.crash told (settled_reads (g.L.Volume.now c.args.logs.now) (g.L.Volume.may c.args.logs.now) settled) found (database_opens (g.L.Volume.now c.args.logs.now) found is))
+    inl ((refl, refl), λ settled. c.start.ensures.crash told (settled_reads (g.L.Volume.now c.args.logs.now) (g.L.Volume.may c.args.logs.now) settled) found (database_opens (g.L.Volume.now c.args.logs.now) found is))
 
 pub returns-in-Ok-clause-opened : goal.returns-in-Ok-clause-opened
 returns-in-Ok-clause-opened g c = λ told.
@@ -38,4 +39,9 @@ pub returns-in-Err-Failed-clause-refused : goal.returns-in-Err-Failed-clause-ref
 returns-in-Err-Failed-clause-refused g c = λ refusal told is. let damaged = refused_log (g.L.Volume.now c.args.logs.now) refusal is in (refl, refl, c.start.ensures.damaged told damaged.refusal damaged.is)
 
 pub returns-in-Err-LogOut-clause-opened : goal.returns-in-Err-LogOut-clause-opened
-returns-in-Err-LogOut-clause-opened g c = λ told. let (found, is, none) = subst (λ (e : OpenRefusal). IsRefusedSo c.args.settings.now (g.L.Volume.now c.args.logs.now) e) c.in-Err-LogOut.field-0-is (c.in-Err-LogOut.ensures.refused told) in opened_out c.args.settings.now (g.L.Volume.now c.args.logs.now) found is none
+returns-in-Err-LogOut-clause-opened g c = λ told. let (found, is, none) = subst (λ (e : OpenRefusal). IsRefusedSo c.args.settings.now (g.L.Volume.now c.args.logs.now) e) c.in-Err-LogOut.field-0-is (c.in-Err-LogOut.ensures.refused told) in opened_out c.args.settings.now (g.L.Volume.now c.args.logs.now) found is
+
+pub returns-in-Err-LogOut-clause-ran : goal.returns-in-Err-LogOut-clause-ran
+returns-in-Err-LogOut-clause-ran g c = λ bytes found told is_script is.
+    let (other, opens, none) = subst (λ (e : OpenRefusal). IsRefusedSo c.args.settings.now (g.L.Volume.now c.args.logs.now) e) c.in-Err-LogOut.field-0-is (c.in-Err-LogOut.ensures.refused told) in
+    inl (subst (λ (f : Found). mark_place c.args.settings.now f ≡ None) (same_found (g.L.Volume.now c.args.logs.now) other found opens is) none)

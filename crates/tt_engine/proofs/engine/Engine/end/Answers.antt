@@ -14,3 +14,6 @@ returns-in-Ok-clause-onward g c told s h = all_onward s h.log.bounds.1
 
 pub returns-in-Err-clause-onward : goal.returns-in-Err-clause-onward
 returns-in-Err-clause-onward g c told s h = all_onward s h.log.bounds.1
+
+pub returns-in-Err-clause-fails : goal.returns-in-Err-clause-fails
+returns-in-Err-clause-fails g c told s h = record { moves = λ q. c.in-Err.ensures.fails told s h.log q }

@@ -4,7 +4,7 @@ use Rattle.std.specs.Prelude.{IfOk, OnErr}
 use Rattle.std.specs.BTreeSet.{contains}
 use Rattle.std.specs.Ordering.{int_cmp}
 use Rattle.tt_engine.specs.declared.request.Request.TheVariants.{Insert}
-use Rattle.tt_engine.specs.Engines.{AnswersSo, IsInsert, IsMovingLine, LeavesLine}
+use Rattle.tt_engine.specs.Engines.{AnswersSo, IsInsert, CallsLog, LeavesLine}
 use Rattle.tt_engine.proofs.ChangeLemmas.{duplicate, insert_entry, numbers_out, read_back}
 use Rattle.tt_engine.proofs.engine.Engine.insert.Goals as goal
 
@@ -38,5 +38,5 @@ returns-in-Ok-clause-crash g c told s h kept =
 pub returns-in-Ok-clause-fails : goal.returns-in-Ok-clause-fails
 returns-in-Ok-clause-fails g c told s h =
     let i : IsInsert s c.args.self.now c.in-Some.transaction c.args.key c.args.value c.in-Ok.entry = record { is = read_back c.in-Some.transaction c.in-Some-free_place.place c.args.self.now.rows.free c.args.key c.args.value c.in-Ok.entry c.in-Ok.ensures.entry c.in-Some-free_place.ensures.some.0 (record { sfits = c.ranges.key.sfits }) (record { sfits = c.ranges.value.sfits }); fresh = sym (h.rows.keys c.args.key) ∙ sym (c.has_key.ensures ∙ ap (λ (k : ℤ). contains int_cmp c.args.self.now.rows.keys k) (to_z-of_z w64 c.args.key (record { sfits = c.ranges.key.sfits }))) ∙ c.if-has_key.false } in
-    subst (λ (k : ℤ). IsInsert s c.args.self.now c.in-Some.transaction k c.args.value c.in-Ok.entry → OnErr c.change.result (IsMovingLine (Insert k c.args.value) s))
+    subst (λ (k : ℤ). IsInsert s c.args.self.now c.in-Some.transaction k c.args.value c.in-Ok.entry → OnErr c.change.result (CallsLog (Insert k c.args.value) s))
     (to_z-of_z w64 c.args.key (record { sfits = c.ranges.key.sfits })) (c.change.ensures.fails told s c.args.value h) i
