@@ -1,5 +1,5 @@
 -- A prefix of the trail that the walk through the files finds is what opening finds.
-use Rattle.std.proofs.Common.{◌≡◌, ◌≤◌, ◌-◌, ◌∙◌, ℕ, Bool, true, false, List, [], ◌∷◌, ◌++◌, length, drop, map, Option, if◌then◌else◌, refl, sym, ap, subst, length-append, arith}
+use Rattle.std.proofs.Common.{◌≡◌, ◌≤◌, ◌-◌, ◌∙◌, ℕ, Bool, true, false, List, [], ◌∷◌, ◌++◌, length, drop, map, Option, Some, None, if◌then◌else◌, refl, sym, ap, ap₂, subst, length-append, arith}
 use Rattle.std.proofs.lemmas.List.{drop-append-le}
 use Rattle.tt_disk.specs.declared.volume.Name.{Name}
 use Rattle.tt_value.specs.declared.position.Position.{Position}
@@ -10,7 +10,7 @@ use Rattle.tt_model.specs.Trail.{Trail, oldest, position_le, position_lt, since}
 use Rattle.tt_model.specs.Committed.{Cells, committed, no_cells}
 use Rattle.tt_model.specs.Live.{next_number}
 use Rattle.tt_model.specs.Found.{Found, scan_of}
-use Rattle.tt_model.specs.Holds.{holds_of, least_of}
+use Rattle.tt_model.specs.Holds.{checkpoint_hold, holds_of, least_hold_of, least_of}
 use Rattle.tt_model.specs.Prefix.{StandsForFirst, found_hold, from_file}
 use Rattle.tt_model.specs.Standing.{standing}
 use Rattle.tt_model.specs.State.{State, bound, trail}
@@ -47,13 +47,23 @@ pub since_origin : (es : Trail) → since (position 0 0) es ≡ es
 since_origin [] = refl
 since_origin (e ∷ es) = ap (λ b. if b then e ∷ since (position 0 0) es else []) (from_origin e.at) ∙ ap (λ l. e ∷ l) (since_origin es)
 
-origin_file : (q : Position) (b : Bool) → position_lt (position 0 0) q ≡ b → (if b then position 0 0 else q).file ≡ 0
-origin_file q true is = refl
-origin_file q false is = grind (arith, is)
+-- Where the first checkpoint file is read from the log's beginning on, nothing is held before that.
+
+origin_least : (q : Position) (b : Bool) → position_lt (position 0 0) q ≡ b → (if b then position 0 0 else q) ≡ position 0 0
+origin_least q true is = refl
+origin_least q false is = ap₂ position (let file : q.file ≡ 0 = grind (arith, is) in file) (let offset : q.offset ≡ 0 = grind (arith, is) in offset)
+
+held_first : (o : Option Position) (more : List Hold) (end : Position) → o ≡ Some (position 0 0) → least_hold_of end (checkpoint_hold 0 o ++ more) ≡ position 0 0
+held_first (Some p) more end is =
+    ap (λ (o : Option Position). least_hold_of end (checkpoint_hold 0 o ++ more)) is ∙ origin_least (least_of end (map (λ (h : Hold). h.at) more)) _ refl
+held_first None more end is = cc
+
+pub origin_hold : (scans : ℕ → Option Position) (places : ℕ) (cells : Cells) (t : Trail) (end : Position) → scans 0 ≡ Some (position 0 0) → least_hold_of end (holds_of scans places cells t) ≡ position 0 0
+unfolding holds_of
+origin_hold scans places cells t end is = held_first (scans 0) _ end is
 
 hold_file : (bound : ℕ) (es : Trail) (end : Position) → (found_hold bound (found_by es end)).file ≡ 0
-unfolding holds_of
-hold_file bound es end = origin_file (least_of end (map (λ (h : Hold). h.at) (drop 1 (holds_of (λ file. scan_of ((found_by es end).heads file)) bound (standing no_cells es) [])))) _ refl
+hold_file bound es end = ap (λ (p : Position). p.file) (origin_hold (λ file. scan_of ((found_by es end).heads file)) bound (standing no_cells es) [] end refl)
 
 held_all : (bound : ℕ) (es : Trail) (end : Position) (t : Trail) → from_file (found_hold bound (found_by es end)) t ≡ t
 held_all bound es end t = ap (λ f. since (position f 0) t) (hold_file bound es end) ∙ since_origin t

@@ -1,6 +1,6 @@
--- The lines are done as the model of the whole database does them: four as they stand, `ttBookmark` where a checkpoint file is read from
--- the log's beginning on, and an insert where its table is kv.
-use Rattle.std.proofs.Common.{◌≡◌, inl, inr, ◌∙◌, ℕ, ℤ, Bool, true, false, [], ◌∷◌, List, map, ◌++◌, codes, nat_lt, Option, Some, None, Ok, if◌then◌else◌, refl, sym, ap, ap₂, subst, arith}
+-- The lines are done as the model of the whole database does them: three as they stand, `ttBookmark` where a checkpoint file is read
+-- from the log's beginning on, and an insert as its statement on the table kv.
+use Rattle.std.proofs.Common.{◌≡◌, inl, inr, ◌∙◌, ℕ, ℤ, Bool, true, false, [], ◌∷◌, List, map, codes, nat_lt, Option, Some, None, Ok, if◌then◌else◌, refl, sym, ap, subst}
 use Rattle.std.specs.Option.{option_or}
 use Rattle.tt_parse.specs.declared.command.Command.TheVariants as command
 use Rattle.tt_parse.specs.declared.command.ColumnText.{ColumnText}
@@ -11,24 +11,21 @@ use Rattle.tt_value.specs.declared.value.Value.TheVariants.{Int}
 use Rattle.tt_value.specs.declared.position.Position.{Position}
 use Rattle.tt_value.specs.declared.refusal.Refusal.{Refusal}
 use Rattle.tt_value.specs.declared.refusal.Refusal.TheVariants.{DuplicateKey, OutOfRange, TooWide}
-use Rattle.tt_value.specs.declared.reply.Hold.{Hold}
 use Rattle.tt_value.specs.declared.reply.Reply.{Reply}
 use Rattle.tt_value.specs.declared.reply.Reply.TheVariants.{Changed, Done, Positions, Refused as RefusedSo}
 use Rattle.tt_record.specs.Places.{position}
 use Rattle.tt_record.specs.declared.entry.Entry.TheVariants.{Commit as CommitEntry}
 use Rattle.tt_set.specs.declared.settings.Settings.{Settings}
 use Rattle.tt_log.specs.Walk.{Files}
-use Rattle.tt_model.specs.Committed.{Cells}
 use Rattle.tt_model.specs.Found.{Found}
 use Rattle.tt_model.specs.Meaning.{Meant, Makes, conflict, first_of, insert_into, is_out_of_range, key_name, no_room, refused_if, stored_length, unless, value_conflict, value_name, value_there}
 use Rattle.tt_model.specs.Tables.{Index, Table, rows_of, unique_of}
-use Rattle.tt_model.specs.Holds.{checkpoint_hold, holds_of, least_hold_of, least_of}
 use Rattle.tt_model.specs.Run.{begun}
 use Rattle.tt_model.specs.State.{State, bound, catalog, view, all_forced, cells_of, force_position, scan_held, trail, with_entry, write_position}
 use Rattle.tt_model.specs.Step.{commit_of, edit_length, end_length, forced_where, is_durable, line, made, made_in, no_number_for, no_place, number_for, settled, statement, unless_refused}
-use Rattle.tt_model.specs.Trail.{Trail, position_lt}
 use Rattle.tt_recover.specs.Opening.{opening}
 use Rattle.tt_engine.specs.OpeningLaws.{found_is}
+use Rattle.tt_engine.specs.PrefixLaws.{origin_hold}
 use Rattle.tt_engine.specs.Starts.{begun_over}
 use Rattle.tt_engine.specs.declared.request.Request.{Request}
 use Rattle.tt_engine.specs.declared.request.Request.TheVariants.{Bookmark, Commit, DurableCommit, Flush, Insert, Refused}
@@ -51,19 +48,6 @@ durable_commit_is_the_line s = refl
 -- The first checkpoint file is read from the log's beginning on.
 abbrev pub IsReadFromOrigin : State → Type 0
 IsReadFromOrigin s = scan_held s 0 ≡ Some (position 0 0)
-
-origin_least : (q : Position) (b : Bool) → position_lt (position 0 0) q ≡ b → (if b then position 0 0 else q) ≡ position 0 0
-origin_least q true is = refl
-origin_least q false is = ap₂ position (let file : q.file ≡ 0 = grind (arith, is) in file) (let offset : q.offset ≡ 0 = grind (arith, is) in offset)
-
-held_first : (o : Option Position) (more : List Hold) (end : Position) → o ≡ Some (position 0 0) → least_hold_of end (checkpoint_hold 0 o ++ more) ≡ position 0 0
-held_first (Some p) more end is =
-    ap (λ (o : Option Position). least_hold_of end (checkpoint_hold 0 o ++ more)) is ∙ origin_least (least_of end (map (λ (h : Hold). h.at) more)) _ refl
-held_first None more end is = cc
-
-origin_hold : (scans : ℕ → Option Position) (places : ℕ) (cells : Cells) (t : Trail) (end : Position) → scans 0 ≡ Some (position 0 0) → least_hold_of end (holds_of scans places cells t) ≡ position 0 0
-unfolding holds_of
-origin_hold scans places cells t end is = held_first (scans 0) _ end is
 
 pub bookmark_is_the_line : (s : State) → IsReadFromOrigin s → answer Bookmark s ≡ line 1 command.Bookmark s
 unfolding line

@@ -116,22 +116,6 @@ no_other_made old now may may' may'' keeps short none files left found is =
 
 -- ---- how a run may end
 
--- once lines have begun
-pub not_before : (status : Status) (script sink logs unplaced : Type 0) → IsRunEnd status script sink logs → IsBeforeLines status unplaced → ⊥
-not_before Done script sink logs unplaced ends before = before
-not_before ScriptFault script sink logs unplaced ends before = before
-not_before SinkFault script sink logs unplaced ends before = before
-not_before ScriptTooLong script sink logs unplaced ends before = before
-not_before (VolumeFault stop) script sink logs unplaced ends before = before
-not_before AttributesFault script sink logs unplaced ends before = ends
-not_before NoMemory script sink logs unplaced ends before = ends
-not_before Usage script sink logs unplaced ends before = ends
-not_before (Damaged damage) script sink logs unplaced ends before = ends
-not_before Exists script sink logs unplaced ends before = ends
-not_before NoDatabase script sink logs unplaced ends before = ends
-not_before (BadAttribute name) script sink logs unplaced ends before = ends
-not_before LogOut script sink logs unplaced ends before = ends
-
 -- where the Mark has no place, the status is LogOut
 pub out_before : (status : Status) (unplaced : Type 0) → IsBeforeLines status unplaced → IsBeforeLines status (status ≡ LogOut)
 out_before LogOut unplaced before = refl
