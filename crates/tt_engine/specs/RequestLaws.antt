@@ -1,16 +1,15 @@
 -- The lines are done as the model of the whole database does them: three as they stand, `ttBookmark` where a checkpoint file is read
 -- from the log's beginning on, and an insert as its statement on the table kv.
-use Rattle.std.proofs.Common.{◌≡◌, inl, inr, ◌∙◌, ℕ, ℤ, Bool, true, false, [], ◌∷◌, List, map, codes, nat_lt, Option, Some, None, Ok, if◌then◌else◌, refl, sym, ap, subst}
+use Rattle.std.proofs.Common.{◌≡◌, inl, inr, ◌∙◌, ℕ, ℤ, Bool, true, false, [], ◌∷◌, List, map, codes, Option, Some, None, Ok, if◌then◌else◌, refl, sym, ap, subst}
 use Rattle.std.specs.Option.{option_or}
 use Rattle.tt_parse.specs.declared.command.Command.TheVariants as command
 use Rattle.tt_parse.specs.declared.command.ColumnText.{ColumnText}
 use Rattle.tt_value.specs.Words.{big_endian}
-use Rattle.tt_value.specs.declared.TheConstants.{ROW_MAX}
 use Rattle.tt_value.specs.declared.value.ColumnType.TheVariants.{BigInt}
 use Rattle.tt_value.specs.declared.value.Value.TheVariants.{Int}
 use Rattle.tt_value.specs.declared.position.Position.{Position}
 use Rattle.tt_value.specs.declared.refusal.Refusal.{Refusal}
-use Rattle.tt_value.specs.declared.refusal.Refusal.TheVariants.{DuplicateKey, OutOfRange, TooWide}
+use Rattle.tt_value.specs.declared.refusal.Refusal.TheVariants.{DuplicateKey}
 use Rattle.tt_value.specs.declared.reply.Reply.{Reply}
 use Rattle.tt_value.specs.declared.reply.Reply.TheVariants.{Changed, Done, Positions, Refused as RefusedSo}
 use Rattle.tt_record.specs.Places.{position}
@@ -18,10 +17,10 @@ use Rattle.tt_record.specs.declared.entry.Entry.TheVariants.{Commit as CommitEnt
 use Rattle.tt_set.specs.declared.settings.Settings.{Settings}
 use Rattle.tt_log.specs.Walk.{Files}
 use Rattle.tt_model.specs.Found.{Found}
-use Rattle.tt_model.specs.Meaning.{Meant, Makes, conflict, first_of, insert_into, is_out_of_range, key_name, no_room, refused_if, stored_length, unless, value_conflict, value_name, value_there}
-use Rattle.tt_model.specs.Tables.{Index, Table, rows_of, unique_of}
+use Rattle.tt_model.specs.Meaning.{Makes, conflict, first_of, insert_into, is_out_of_range, key_name, no_room, refused_if, row_refusal, unless}
+use Rattle.tt_model.specs.Tables.{Table, unique_of}
 use Rattle.tt_model.specs.Run.{begun}
-use Rattle.tt_model.specs.State.{State, bound, catalog, view, all_forced, cells_of, force_position, scan_held, trail, with_entry, write_position}
+use Rattle.tt_model.specs.State.{State, bound, catalog, all_forced, cells_of, force_position, scan_held, trail, with_entry, write_position}
 use Rattle.tt_model.specs.Step.{commit_of, edit_length, end_length, forced_where, is_durable, line, made, made_in, no_number_for, no_place, number_for, settled, statement, unless_refused}
 use Rattle.tt_recover.specs.Opening.{opening}
 use Rattle.tt_engine.specs.OpeningLaws.{found_is}
@@ -109,31 +108,6 @@ whole_column name = record { name = name; kind = BigInt; required = true }
 abbrev pub kv_table : Table
 kv_table = record { id = kv; name = codes "kv"; columns = whole_column (codes "k") ∷ whole_column (codes "v") ∷ []; key = 0 ∷ [] }
 
-stored : (key value : ℤ) → stored_length (row_of key value) ≡ 19
-unfolding big_endian
-stored key value = refl
-
--- the tests of an insert into kv, of which the numbers' ranges, the row's length, the key's holder, the key, the indexes and the room
--- are open
-abbrev tested : ℤ → ℤ → State → Bool → Bool → ℕ → Option Refusal → Bool → List Index → Option Refusal → Meant
-tested key value s key_out value_out stored holder seen indexes room =
-    let row = row_of key value in
-    let rows = rows_of kv (bound s) (view 1 s) in
-    unless (first_of (
-    None
-    ∷ None
-    ∷ first_of (first_of (None ∷ None ∷ refused_if key_out OutOfRange ∷ []) ∷ first_of (None ∷ None ∷ refused_if value_out OutOfRange ∷ []) ∷ [])
-    ∷ refused_if (nat_lt ROW_MAX stored) (TooWide stored)
-    ∷ holder
-    ∷ refused_if seen DuplicateKey
-    ∷ first_of (map (λ i. first_of (value_conflict (s.own 1) (trail s) (value_name i row) ∷ value_there row None rows i ∷ [])) indexes)
-    ∷ room
-    ∷ [])) (Makes (insert_edit key value ∷ []))
-
-into_kv : (key value : ℤ) (s : State) → insert_into 1 s (Int key ∷ Int value ∷ []) (Some kv_table) ≡
-    tested key value s (is_out_of_range BigInt key) (is_out_of_range BigInt value) (stored_length (row_of key value)) (conflict (s.own 1) (trail s) (key_name kv_table (row_of key value))) (sees_key key s) (unique_of kv_table (catalog s)) (no_room 1 s)
-into_kv key value s = refl
-
 -- Where the numbers are in range, nobody else holds the key, kv has no unique index and there is room.
 pub record MayInsert (key value : ℤ) (s : State) : Type 0 where
   pub key_in : is_out_of_range BigInt key ≡ false
@@ -142,21 +116,15 @@ pub record MayInsert (key value : ℤ) (s : State) : Type 0 where
   pub plain : unique_of kv_table (catalog s) ≡ []
   pub room : no_room 1 s ≡ None
 
-all_tested : (key value : ℤ) (s : State) → MayInsert key value s → insert_into 1 s (Int key ∷ Int value ∷ []) (Some kv_table) ≡ tested key value s false false 19 None (sees_key key s) [] None
-all_tested key value s may =
-    let holder = conflict (s.own 1) (trail s) (key_name kv_table (row_of key value)) in
-    let indexes = unique_of kv_table (catalog s) in
-    into_kv key value s
-    ∙ ap (λ (b : Bool). tested key value s b (is_out_of_range BigInt value) (stored_length (row_of key value)) holder (sees_key key s) indexes (no_room 1 s)) may.key_in
-    ∙ ap (λ (b : Bool). tested key value s false b (stored_length (row_of key value)) holder (sees_key key s) indexes (no_room 1 s)) may.value_in
-    ∙ ap (λ (n : ℕ). tested key value s false false n holder (sees_key key s) indexes (no_room 1 s)) (stored key value)
-    ∙ ap (λ (o : Option Refusal). tested key value s false false 19 o (sees_key key s) indexes (no_room 1 s)) may.free
-    ∙ ap (λ (l : List Index). tested key value s false false 19 None (sees_key key s) l (no_room 1 s)) may.plain
-    ∙ ap (λ (o : Option Refusal). tested key value s false false 19 None (sees_key key s) [] o) may.room
+short_row : (key value : ℤ) → row_refusal (row_of key value) ≡ None
+unfolding big_endian
+short_row key value = refl
 
 pub insert_is_the_statement : (key value : ℤ) (s : State) → MayInsert key value s → statement 1 (insert_into 1 s (Int key ∷ Int value ∷ []) (Some kv_table)) s ≡ answer (Insert key value) s
-insert_is_the_statement key value s may = ap (λ (m : Meant). statement 1 m s) (all_tested key value s may) ∙ by (sees_key key s)
+insert_is_the_statement key value s may =
+    let short : row_refusal (row_of key value) ≡ None = short_row key value in
+    rw (may.key_in, may.value_in, short, may.free, may.plain, may.room) (by (sees_key key s))
   where
-    by : (seen : Bool) → statement 1 (tested key value s false false 19 None seen [] None) s ≡ (if seen then (RefusedSo DuplicateKey, s) else made 1 (insert_edit key value ∷ []) s)
+    by : (seen : Bool) → statement 1 (unless (first_of (refused_if seen DuplicateKey ∷ None ∷ None ∷ [])) (Makes (insert_edit key value ∷ []))) s ≡ (if seen then (RefusedSo DuplicateKey, s) else made 1 (insert_edit key value ∷ []) s)
     by true = refl
     by false = refl
