@@ -26,7 +26,7 @@ use Rattle.tt_log.specs.Logs.{write_of}
 use Rattle.tt_model.specs.Live.{touched, with_number}
 use Rattle.tt_model.specs.Laws.{NextIsFresh, SeenRowsMayChange}
 use Rattle.tt_model.specs.Steady.{IsGrown}
-use Rattle.tt_model.specs.State.{State, at_one, cells_of, free_place, is_used, next, placed, trail, with_entry, write_position}
+use Rattle.tt_model.specs.State.{State, at_one, cells_of, free_place, is_used, next, placed, trail, with_entry, write_position, scan_held}
 use Rattle.tt_model.specs.Step.{Answered, made, made_in, no_number_for, no_place, number_for, edit_length, refused, unless_refused}
 use Rattle.tt_model.specs.Meaning.{refused_if}
 use Rattle.tt_model.specs.Found.{Found}
@@ -176,6 +176,10 @@ filled_trail : (log : Log) (now : Files) (t p : ℕ) (key value : ℤ) (s : Stat
 unfolding filled
 filled_trail log now t p key value s h = record { first = h.first; entries = h.entries; forced = h.forced; bounds = h.bounds; write = h.write; force = h.force; files = h.files; sizes = h.sizes }
 
+filled_origin : (t p : ℕ) (key value : ℤ) (s : State) → scan_held (filled t p key value s) 0 ≡ scan_held s 0
+unfolding filled with_entry
+filled_origin t p key value s = refl
+
 filled_kept : (t p : ℕ) (key value : ℤ) (s : State) → ((filled t p key value s).found ≡ s.found) × ((filled t p key value s).wish ≡ s.wish) × ((filled t p key value s).settings ≡ s.settings)
 unfolding filled with_entry
 filled_kept t p key value s = (refl, refl, refl)
@@ -212,6 +216,7 @@ stands_filled e e' now now' s t key value laws h is inside takes c log =
       grown = subst (λ (cells : Cells). IsGrown cells ((filled t e.rows.free key value s).entries)) (ap (λ (f : Found). f.cells) (sym kept.0)) (filled_grown e.own t e.rows.free key value s laws.seen f h.grown);
       below = filled_below e.own t e.rows.free key value s f;
       opened = filled_opened t e.rows.free key value s h.opened;
+      origin = filled_origin t e.rows.free key value s ∙ h.origin;
       numbered = subst (λ (f : Found). AreNumberedFrom f.next ((filled t e.rows.free key value s).entries)) (sym kept.0)
           (filled_numbered s.found.next t e.rows.free key value s (own_least e.own t s laws.fresh f.number h.filled) h.numbered);
       filled = subst (λ o. FillsPlaces o (filled t e.rows.free key value s)) (sym c.own) (filled_places e.own t e.rows.free key value s f h.filled);

@@ -20,7 +20,7 @@ use Rattle.tt_model.specs.Steady.{IsGrown}
 use Rattle.tt_set.specs.declared.settings.Settings.{Settings}
 use Rattle.tt_model.specs.Laws.{ForcedNeverFalls, NextIsFresh}
 use Rattle.tt_model.specs.Tables.{PlacedRow, rows_of}
-use Rattle.tt_model.specs.State.{State, all_forced, at_one, bound, cells_of, is_used, next, placed, trail, with_entry, write_position}
+use Rattle.tt_model.specs.State.{State, all_forced, at_one, bound, cells_of, is_used, next, placed, trail, with_entry, write_position, scan_held}
 use Rattle.tt_model.specs.Step.{commit_of, end_length, forced_where, is_durable, no_place, settled, unless_refused}
 use Rattle.tt_recover.specs.Numbers.{AreNumberedFrom}
 use Rattle.tt_engine.specs.declared.engine.Engine.{Engine}
@@ -155,6 +155,10 @@ pub record Closes (e e' : Engine) : Type 0 where
   pub durable : e'.durable_commits ≡ e.durable_commits
   pub rows : e'.rows ≡ e.rows
 
+closed_origin : (t : ℕ) (s : State) → scan_held (closed t s) 0 ≡ scan_held s 0
+unfolding closed with_entry
+closed_origin t s = refl
+
 pub stands_closed : (e e' : Engine) (now now' : Files) (s : State) (t : ℕ) → NextIsFresh → Stands e now s → e.own ≡ Some t → Closes e e' → HasTrail e'.log now' (with_entry (CommitEntry t) s) → Stands e' now' (closed t s)
 stands_closed e e' now now' s t law h own c log =
     let alone : IsAlone (Some t) s = subst (λ o. IsAlone o s) own h.alone in
@@ -164,6 +168,7 @@ stands_closed e e' now now' s t law h own c log =
       log = closed_trail e'.log now' t s log;
       grown = closed_grown t s alone h.grown;
       opened = closed_opened t s h.opened;
+      origin = closed_origin t s ∙ h.origin;
       numbered = closed_numbered t s (h.filled.least t own) h.numbered;
       below = λ q is. subst (λ n. q < 32 * n) (sym kept.0) (h.below q (sym (used q) ∙ is));
       alone = subst (λ o. IsAlone o (closed t s)) (sym c.own) (closed_alone t s alone);
@@ -184,6 +189,7 @@ stands_forced e e' now now' s h own next wish durable rows log = record {
   log = log;
   grown = h.grown;
   opened = h.opened;
+  origin = h.origin;
   numbered = h.numbered;
   below = h.below;
   alone = subst (λ o. IsAlone o (all_forced s)) (sym own) (record { new_live = h.alone.new_live; all_live = h.alone.all_live; sessions = h.alone.sessions });
@@ -205,6 +211,7 @@ stands_settled e e' now s h none log own next wish durable rows =
     record {
       log = subst (λ (l : Log). HasTrail l now (settled 1 s)) (sym log) (record { first = h.log.first; entries = h.log.entries; forced = h.log.forced; bounds = h.log.bounds; write = h.log.write; force = h.log.force; files = h.log.files; sizes = h.log.sizes });
       opened = h.opened;
+      origin = h.origin;
       grown = h.grown;
       numbered = h.numbered;
       below = h.below;
@@ -230,6 +237,7 @@ stands_ended e e' now now' s h none own next wish durable rows log =
     record {
       log = record { first = log.first; entries = log.entries; forced = log.forced; bounds = log.bounds; write = log.write; force = log.force; files = log.files; sizes = log.sizes };
       opened = h.opened;
+      origin = h.origin;
       grown = h.grown;
       numbered = h.numbered;
       below = h.below;

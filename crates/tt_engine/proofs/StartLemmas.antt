@@ -18,7 +18,7 @@ use Rattle.tt_model.specs.Run.{begun, opened}
 use Rattle.tt_model.specs.Sets.{SetStanding}
 use Rattle.tt_model.specs.Standing.{standing}
 use Rattle.tt_model.specs.Tables.{rows_of}
-use Rattle.tt_model.specs.State.{State, bound, is_used, next, placed, view, with_entry}
+use Rattle.tt_model.specs.State.{State, bound, is_used, next, placed, view, with_entry, scan_held}
 use Rattle.tt_recover.specs.declared.recovery.Recovered.{Recovered}
 use Rattle.tt_recover.specs.declared.replay.FoundRow.{FoundRow}
 use Rattle.tt_recover.specs.Opening.{found_by, newest_first, opening}
@@ -44,7 +44,7 @@ use Rattle.tt_log.specs.declared.refusal.LogRefusal.TheVariants as log
 use Rattle.tt_disk.specs.declared.volume.Name.{Name}
 use Rattle.tt_disk.specs.declared.volume.Name.TheVariants.{Log as LogFile}
 use Rattle.tt_record.specs.Entries.{length_of}
-use Rattle.tt_record.specs.Places.{place_of}
+use Rattle.tt_record.specs.Places.{place_of, position}
 use Rattle.std.specs.Prelude.{IfErr, IsSome, is_some, IsTrue, OnOk, option_map, ◌↔◌}
 use Rattle.tt_engine.specs.OpeningLaws.{found_is, read_is, same_ok}
 use Rattle.tt_engine.proofs.PlaceLemmas.{any_here, any_found, any_row, in_cell, same_test}
@@ -165,6 +165,10 @@ begun_opened : (settings : Settings) (files : Files) (es : Trail) (end : Positio
 unfolding begun with_entry
 begun_opened settings files es end = refl
 
+begun_origin : (settings : Settings) (files : Files) (es : Trail) (end : Position) → scan_held (begun settings (found_by es end) (are_there files) no_sets) 0 ≡ Some (position 0 0)
+unfolding begun with_entry
+begun_origin settings files es end = refl
+
 pub stands_begun : (e : Engine) (settings : Settings) (old now : Files) (es : Trail) (end : Position) (found : List FoundRow) → HasTrail e.log now (with_entry Mark (before_mark settings old es end))
     → e.durable_commits ≡ settings.durable_commits → e.next ≡ next_number 1 es → e.own ≡ None → e.wish ≡ false → HaveFound e.rows found → AreInOrder found
     → ((q : ℕ) → cell_shown found q ≡ standing no_cells es q) → Stands e now (begun_over settings old (found_by es end))
@@ -177,6 +181,7 @@ stands_begun e settings old now es end found log durable number own wish have or
       grown = grown.0;
       numbered = grown.1;
       opened = begun_opened settings old es end;
+      origin = begun_origin settings old es end;
       below = λ q is. let low = full_below es q (sym (begun_used settings old es end q) ∙ is) in let pages = begun_pages settings old es end in omega (arith, low, pages);
       alone = subst (λ o. IsAlone o s) (sym own) (begun_alone settings old es end);
       filled = subst (λ o. FillsPlaces o s) (sym own) (none_filled s);

@@ -10,12 +10,13 @@ use Rattle.tt_log.specs.Walk.{Files}
 use Rattle.tt_model.specs.Committed.{changed_by, is_full}
 use Rattle.tt_model.specs.Live.{live, touched}
 use Rattle.tt_model.specs.Steady.{IsGrown}
-use Rattle.tt_model.specs.State.{State, cells_of, is_used, next, trail}
+use Rattle.tt_model.specs.State.{State, cells_of, is_used, next, scan_held, trail}
 use Rattle.tt_recover.specs.Numbers.{AreNumberedFrom}
 use Rattle.tt_engine.specs.declared.engine.Engine.{Engine}
 use Rattle.tt_engine.specs.declared.rows.Rows.{Rows}
 use Rattle.tt_disk.specs.declared.volume.Name.{Name}
 use Rattle.tt_recover.specs.Opening.{found_by}
+use Rattle.tt_record.specs.Places.{position}
 use Rattle.tt_engine.specs.LogTrail.{HasTrail, IsQuiet}
 use Rattle.tt_engine.specs.Prefixes.{IsOnward, LeavesOpening}
 use Rattle.tt_engine.specs.declared.request.Request.{Request}
@@ -48,6 +49,10 @@ pub record FillsPlaces (own : Option ℕ) (s : State) : Type 0 where
   pub new : (t q : ℕ) → own ≡ Some t → touched t q s.found.entries ≡ false
   pub least : (t : ℕ) → own ≡ Some t → s.found.next ≤ t
 
+-- The first checkpoint file is read from the log's beginning on.
+abbrev pub IsReadFromOrigin : State → Type 0
+IsReadFromOrigin s = scan_held s 0 ≡ Some (position 0 0)
+
 -- The engine stands for a state: its log for the trail, its rows for the tables, and its parts for those of the state.
 pub record Stands (e : Engine) (now : Files) (s : State) : Type 0 where
   pub log : HasTrail e.log now s
@@ -60,6 +65,7 @@ pub record Stands (e : Engine) (now : Files) (s : State) : Type 0 where
   pub next : e.next ≡ next s
   pub wish : e.wish ≡ s.wish 1
   pub durable : e.durable_commits ≡ s.settings.durable_commits
+  pub origin : IsReadFromOrigin s
   pub rows : HoldRows e.rows s
 
 -- The line was answered so, and the engine stands for the state behind it.
