@@ -1,4 +1,5 @@
 pub mod Engines
+pub mod FileLaws
 pub mod Founds
 pub mod Keys
 pub mod Laws

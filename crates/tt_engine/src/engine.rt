@@ -9,7 +9,7 @@ ghost use Rattle.tt_record.specs.declared.entry.Entry.TheVariants.{Change};
 ghost use Rattle.tt_value.specs.declared.value.Cell.TheVariants.{Empty, Full};
 ghost use Rattle.tt_log.specs.Logs.{IsOpen, LeavesForced};
 ghost use Rattle.tt_log.specs.Walk.{Files, is_switch};
-ghost use Rattle.tt_model.specs.State.{State};
+ghost use Rattle.tt_model.specs.State.{State, write_position};
 ghost use Rattle.tt_model.specs.Step.{forced_where, is_durable, settled};
 ghost use Rattle.tt_engine.specs.declared.request.Request.TheVariants.{Bookmark, Commit, DurableCommit, Flush, Insert};
 ghost use Rattle.tt_engine.specs.Laws.{Laws};
@@ -90,7 +90,7 @@ fn insert_entry(
 
 impl Engine {
     ghost use Rattle.tt_engine.specs.Engines.{Stands, Advances, AnswersSo, CallsLog, EndCallsLog, IsInsert, LeavesLine, IsQuietLine};
-    ghost use Rattle.tt_engine.specs.LogTrail.{HasTrail};
+    ghost use Rattle.tt_engine.specs.LogTrail.{ChangesFrom, HasTrail};
     ghost use Rattle.tt_engine.specs.Starts.{IsStarted, IsRefusedSo, UnlessFailed, begun_over};
     ghost use Rattle.tt_set.specs.Attributes.{AreInRange};
     ghost use Rattle.tt_disk.specs.declared.volume.Name.TheVariants.{Log as LogFile};
@@ -148,6 +148,7 @@ impl Engine {
         ensures still { (self.new.durable_commits ≡ self.old.durable_commits) × (self.new.next ≡ self.old.next)
             × (self.new.own ≡ self.old.own)
             × (self.new.wish ≡ self.old.wish) × (self.new.rows ≡ self.old.rows) }
+        ensures others { L.told → ChangesFrom self.old.log.number (L.now logs.old) (L.now logs.new) (L.may logs.old) (L.may logs.new) }
         ensures cause { HasCause (L.faults logs.old) (L.faults logs.new) result }
     {
         let entry = Entry::Mark;
@@ -183,6 +184,8 @@ impl Engine {
             (Keeps (L.now logs.old) (L.now logs.new) (L.may logs.old) (L.may logs.new))) }
         ensures damaged { L.told → (e : LogRefusal) → opening (L.now logs.old) ≡ Err e
             → Keeps (L.now logs.old) (L.now logs.new) (L.may logs.old) (L.may logs.new) }
+        ensures others { L.told → (found : Found) → opening (L.now logs.old) ≡ Ok found
+            → ChangesFrom found.end.file (L.now logs.old) (L.now logs.new) (L.may logs.old) (L.may logs.new) }
         ensures cause { RoseWhere (IsErrOf result OpenRefusal.Failed) (L.faults logs.old) (L.faults logs.new) }
     {
         laws();
@@ -231,6 +234,8 @@ impl Engine {
             (Keeps (L.now logs.old) (L.now logs.new) (L.may logs.old) (L.may logs.new))) }
         ensures damaged { L.told → (e : LogRefusal) → opening (L.now logs.old) ≡ Err e
             → Keeps (L.now logs.old) (L.now logs.new) (L.may logs.old) (L.may logs.new) }
+        ensures others { L.told → (found : Found) → opening (L.now logs.old) ≡ Ok found
+            → ChangesFrom found.end.file (L.now logs.old) (L.now logs.new) (L.may logs.old) (L.may logs.new) }
         ensures cause { RoseWhere (IsErrOf result OpenRefusal.Failed) (L.faults logs.old) (L.faults logs.new) }
     {
         laws();
@@ -286,6 +291,7 @@ impl Engine {
             → IsInsert s self.old transaction key value entry.now → OnErr result (CallsLog (Insert key value) s) }
         ensures wanting { IfOk result (λ reply. reply ≡ RefusedSo NoMemory → logs.new ≡ logs.old) }
         ensures given { IfOk result IsGiven }
+        ensures others { L.told → ChangesFrom self.old.log.number (L.now logs.old) (L.now logs.new) (L.may logs.old) (L.may logs.new) }
         ensures cause { HasCause (L.faults logs.old) (L.faults logs.new) result }
     {
         laws();
@@ -327,6 +333,7 @@ impl Engine {
             → OnErr result (CallsLog (Insert key value) s) }
         ensures wanting { IfOk result (λ reply. reply ≡ RefusedSo NoMemory → logs.new ≡ logs.old) }
         ensures given { IfOk result IsGiven }
+        ensures others { L.told → ChangesFrom self.old.log.number (L.now logs.old) (L.now logs.new) (L.may logs.old) (L.may logs.new) }
         ensures cause { HasCause (L.faults logs.old) (L.faults logs.new) result }
     {
         if self.rows.has_key(key) {
@@ -367,6 +374,7 @@ impl Engine {
             → IsQuiet s (settled 1 (forced_where (is_durable 1 s) s)) → OnOk result (logs.new ≡ logs.old) }
         ensures fails { L.told → (s : State) → Stands self.old (L.now logs.old) s
             → OnErr result (¬ (IsQuiet s (settled 1 (forced_where (is_durable 1 s) s)))) }
+        ensures others { L.told → ChangesFrom self.old.log.number (L.now logs.old) (L.now logs.new) (L.may logs.old) (L.may logs.new) }
         ensures cause { HasCause (L.faults logs.old) (L.faults logs.new) result }
     {
         if !self.is_durable() {
@@ -399,6 +407,7 @@ impl Engine {
             → OnErr result (CallsLog Commit s) }
         ensures wanting { IfOk result (λ reply. reply ≡ RefusedSo NoMemory → logs.new ≡ logs.old) }
         ensures given { IfOk result IsGiven }
+        ensures others { L.told → ChangesFrom self.old.log.number (L.now logs.old) (L.now logs.new) (L.may logs.old) (L.may logs.new) }
         ensures cause { HasCause (L.faults logs.old) (L.faults logs.new) result }
     {
         laws();
@@ -433,6 +442,7 @@ impl Engine {
             → OnErr result (CallsLog Commit s) }
         ensures wanting { IfOk result (λ reply. reply ≡ RefusedSo NoMemory → logs.new ≡ logs.old) }
         ensures given { IfOk result IsGiven }
+        ensures others { L.told → ChangesFrom self.old.log.number (L.now logs.old) (L.now logs.new) (L.may logs.old) (L.may logs.new) }
         ensures cause { HasCause (L.faults logs.old) (L.faults logs.new) result }
     {
         laws();
@@ -462,6 +472,7 @@ impl Engine {
             → OnErr result (CallsLog Flush s) }
         ensures wanting { IfOk result (λ reply. reply ≡ RefusedSo NoMemory → logs.new ≡ logs.old) }
         ensures given { IfOk result IsGiven }
+        ensures others { L.told → ChangesFrom self.old.log.number (L.now logs.old) (L.now logs.new) (L.may logs.old) (L.may logs.new) }
         ensures cause { HasCause (L.faults logs.old) (L.faults logs.new) result }
     {
         laws();
@@ -514,6 +525,7 @@ impl Engine {
             → OnErr result (CallsLog request s) }
         ensures wanting { IfOk result (λ reply. reply ≡ RefusedSo NoMemory → logs.new ≡ logs.old) }
         ensures given { IfOk result IsGiven }
+        ensures others { L.told → ChangesFrom self.old.log.number (L.now logs.old) (L.now logs.new) (L.may logs.old) (L.may logs.new) }
         ensures cause { HasCause (L.faults logs.old) (L.faults logs.new) result }
     {
         match request {
@@ -557,6 +569,9 @@ impl Engine {
             → OnOk result (LeavesForced self.new.log (L.now logs.new) (L.may logs.new)) }
         ensures onward { L.told → (s : State) → Stands self.old (L.now logs.old) s → IsOnward s (answer request s).1 }
         ensures given { IfOk result IsGiven }
+        // No file changes but the log files from the current one on.
+        ensures others { L.told → (s : State) → Stands self.old (L.now logs.old) s → ChangesFrom (write_position s).file (L.now logs.old)
+            (L.now logs.new) (L.may logs.old) (L.may logs.new) }
         ensures cause { HasCause (L.faults logs.old) (L.faults logs.new) result }
     {
         laws();
@@ -594,6 +609,9 @@ impl Engine {
         ensures quiet { L.told → (s : State) → Stands self.old (L.now logs.old) s → IsQuiet s (script_ended s)
             → OnOk result (logs.new ≡ logs.old) }
         ensures fails { L.told → (s : State) → Stands self.old (L.now logs.old) s → OnErr result (EndCallsLog s) }
+        // No file changes but the log files from the current one on.
+        ensures others { L.told → (s : State) → Stands self.old (L.now logs.old) s → ChangesFrom (write_position s).file (L.now logs.old)
+            (L.now logs.new) (L.may logs.old) (L.may logs.new) }
         ensures cause { HasCause (L.faults logs.old) (L.faults logs.new) result }
     {
         laws();

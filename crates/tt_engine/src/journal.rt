@@ -1,12 +1,12 @@
 // Entries added to the log, and their force.
-ghost use Rattle.std.specs.Prelude.{◌≡◌, false, OnOk, OnErr, IsSome};
+ghost use Rattle.std.specs.Prelude.{◌≡◌, ◌≤◌, false, OnOk, OnErr, IsSome};
 ghost use Rattle.tt_disk.specs.Causes.{HasCause};
 ghost use Rattle.tt_record.specs.Entries.{length_of, IsEntry};
 ghost use Rattle.tt_record.specs.Places.{place_of};
 ghost use Rattle.tt_log.specs.Walk.{is_switch};
 ghost use Rattle.tt_log.specs.Logs.{IsOpen, LeavesForced, write_of};
 ghost use Rattle.tt_model.specs.State.{State, all_forced, with_entry};
-ghost use Rattle.tt_engine.specs.LogTrail.{HasTrail, IsQuiet, LeavesPrefix};
+ghost use Rattle.tt_engine.specs.LogTrail.{ChangesFrom, HasTrail, IsQuiet, LeavesPrefix};
 
 use tt_disk::{Failed, Volume};
 use tt_log::Log;
@@ -31,6 +31,9 @@ pub(crate) fn add<V: Volume>(log: &mut Log, volume: &mut V, entry: &Entry) -> Re
         → OnOk result (volume.new ≡ volume.old) }
     ensures fails { V.told → (s : State) → HasTrail log.old (V.now volume.old) s
         → OnErr result (¬ (IsQuiet s (with_entry entry.now s))) }
+    // Files before the current one stay as they are, and those of other names.
+    ensures others { V.told → ChangesFrom log.old.number (V.now volume.old) (V.now volume.new) (V.may volume.old) (V.may volume.new) }
+    ensures number { OnOk result (log.old.number ≤ log.new.number) }
     ensures cause { HasCause (V.faults volume.old) (V.faults volume.new) result }
 {
     match log.append(volume, entry) {
@@ -53,6 +56,7 @@ pub(crate) fn force<V: Volume>(log: &mut Log, volume: &mut V) -> Result<(), Fail
     ensures quiet { V.told → (s : State) → HasTrail log.old (V.now volume.old) s → IsQuiet s (all_forced s)
         → OnOk result (volume.new ≡ volume.old) }
     ensures fails { V.told → (s : State) → HasTrail log.old (V.now volume.old) s → OnErr result (¬ (IsQuiet s (all_forced s))) }
+    ensures others { V.told → ChangesFrom log.old.number (V.now volume.old) (V.now volume.new) (V.may volume.old) (V.may volume.new) }
     ensures cause { HasCause (V.faults volume.old) (V.faults volume.new) result }
 {
     match log.force(volume) {

@@ -4,7 +4,7 @@ use Rattle.std.specs.Prelude.{IsSome, option_map}
 use Rattle.tt_disk.specs.Volume.{Keeps, size_of}
 use Rattle.tt_disk.specs.declared.volume.Name.TheVariants.{Log as LogFile}
 use Rattle.tt_gate.specs.Standing.{LeavesAtMost}
-use Rattle.tt_value.specs.declared.reply.Stop.TheVariants.{Logs, Images, Backups}
+use Rattle.tt_value.specs.declared.reply.Stop.TheVariants.{Logs}
 use Rattle.tt_value.specs.declared.position.Position.{Position}
 use Rattle.tt_set.specs.declared.settings.Settings.{Settings}
 use Rattle.tt_log.specs.declared.refusal.LogRefusal.{LogRefusal}
@@ -13,21 +13,22 @@ use Rattle.tt_log.specs.Walk.{Files, Found as Read, file_read, log_of, nothing, 
 use Rattle.tt_log.specs.Logs.{LeavesThis, MayLeave}
 use Rattle.tt_log.proofs.Following.{log_step}
 use Rattle.tt_model.specs.Found.{Found}
-use Rattle.tt_model.specs.State.{State}
+use Rattle.tt_model.specs.State.{State, with_entry}
 use Rattle.tt_record.specs.Places.{position}
 use Rattle.tt_model.specs.Trail.{Trail}
 use Rattle.tt_recover.specs.Opening.{found_by, found_in, newest_first, opening}
-use Rattle.tt_engine.specs.OnwardLaws.{still_before}
 use Rattle.tt_engine.specs.OpeningLaws.{database_opens, found_is, read_is}
 use Rattle.tt_engine.specs.Prefixes.{IsSinceOpening, IsStill, opens, or_none}
-use Rattle.tt_engine.specs.Starts.{database, opened_in}
+use Rattle.tt_engine.specs.LogTrail.{ChangesFrom}
+use Rattle.tt_engine.specs.Starts.{begun_over, database, opened_in}
+use Rattle.tt_model.specs.Run.{begun}
 use Rattle.tt_engine.specs.declared.refusal.OpenRefusal.{OpenRefusal}
 use Rattle.tt_run.specs.declared.status.Status.{Status}
-use Rattle.tt_run.specs.declared.status.Status.TheVariants.{Done, ScriptFault, AttributesFault, SinkFault, VolumeFault, NoMemory, Usage, Damaged, Exists, NoDatabase, BadAttribute, LogOut, ScriptTooLong}
+use Rattle.tt_run.specs.declared.status.Status.TheVariants.{Done, ScriptFault, AttributesFault, SinkFault, VolumeFault, NoMemory, Usage, Exists, BadAttribute, LogOut, ScriptTooLong}
 use Rattle.tt_run.specs.Openings.{EndedEarly, HasNewDatabase, IsBeforeLines, IsCreated, IsFaultOf, IsOpened, IsScriptRunEnd, LeavesNoOther, LeavesNoLog, mark_place, new_database}
 use Rattle.tt_run.specs.Loops.{IsRunEnd}
-use Rattle.tt_run.specs.Runs.{IsRun}
-use Rattle.tt_run.proofs.RunLemmas.{Outcomes, left_from}
+use Rattle.tt_run.specs.Runs.{IsRun, IsRunFrom}
+use Rattle.tt_run.proofs.RunLemmas.{Outcomes, run_changes, run_still, run_under}
 
 -- ---- the first log file
 
@@ -124,13 +125,7 @@ out_before ScriptFault unplaced before = absurd before
 out_before SinkFault unplaced before = absurd before
 out_before ScriptTooLong unplaced before = absurd before
 out_before (VolumeFault stop) unplaced before = absurd before
-out_before AttributesFault unplaced before = tt
-out_before NoMemory unplaced before = tt
-out_before Usage unplaced before = tt
-out_before (Damaged damage) unplaced before = tt
-out_before Exists unplaced before = tt
-out_before NoDatabase unplaced before = tt
-out_before (BadAttribute name) unplaced before = tt
+out_before _ unplaced before = tt
 
 opened_end : (settings : Settings) (found : Found) (status : Status) (script sink logs : Type 0) → IsSome (mark_place settings found) → IsRunEnd status script sink logs → IsOpened settings (Ok found) status
 opened_end settings found Done script sink logs place ends = place
@@ -138,16 +133,7 @@ opened_end settings found ScriptFault script sink logs place ends = place
 opened_end settings found SinkFault script sink logs place ends = place
 opened_end settings found ScriptTooLong script sink logs place ends = place
 opened_end settings found (VolumeFault Logs) script sink logs place ends = tt
-opened_end settings found (VolumeFault Images) script sink logs place ends = absurd ends
-opened_end settings found (VolumeFault Backups) script sink logs place ends = absurd ends
-opened_end settings found AttributesFault script sink logs place ends = absurd ends
-opened_end settings found NoMemory script sink logs place ends = absurd ends
-opened_end settings found Usage script sink logs place ends = absurd ends
-opened_end settings found (Damaged damage) script sink logs place ends = absurd ends
-opened_end settings found Exists script sink logs place ends = absurd ends
-opened_end settings found NoDatabase script sink logs place ends = absurd ends
-opened_end settings found (BadAttribute name) script sink logs place ends = absurd ends
-opened_end settings found LogOut script sink logs place ends = absurd ends
+opened_end settings found _ script sink logs place ends = absurd ends
 
 -- a run whose lines have begun
 pub opened_lines : (settings : Settings) (files : Files) (found : Found) (status : Status) (script sink logs : Type 0) → opening files ≡ Ok found → IsSome (mark_place settings found) → IsRunEnd status script sink logs
@@ -183,57 +169,51 @@ same_found files a b opens is = same_ok (opening files) a b opens (database_open
 pub found_not_refused : (files : Files) (found : Found) (refusal : OpenRefusal) → opening files ≡ Ok found → database files ≡ Err refusal → ⊥
 found_not_refused files found refusal opens is = let found_so : database files ≡ Ok found = database_found files found opens in let no : ⊥ = cc in no
 
+-- what was found is what the run begins over
+pub begun_found : (settings : Settings) (files : Files) (found : Found) → (begun_over settings files found).found ≡ found
+unfolding begun with_entry
+begun_found settings files found = refl
+
 -- a run, as it is seen from before the database was opened
-pub run_over : (script : List ℕ) (left : Option (List ℕ)) (start : State) (before after : Option (List ℕ)) (status : Status) (P Q : Type 0) (now_1 now_2 now_3 : Files) (may_1 may_2 may_3 : Outcomes)
-    → IsSinceOpening start → (Q → P) → (IsStill start → Keeps now_1 now_2 may_1 may_2) → IsRun script left start before after status P now_2 now_3 may_2 may_3 → IsRun script left start before after status Q now_1 now_3 may_1 may_3
-run_over script left start before after status P Q now_1 now_2 now_3 may_1 may_2 may_3 since settled still run = record {
-  answered_state = run.answered_state;
-  last_state = run.last_state;
-  run = run.run;
-  onward = run.onward;
-  logs = left_from status run.answered_state run.last_state P Q now_1 now_2 now_3 may_1 may_2 may_3 settled (λ is. still ((still_before start run.last_state since run.onward is).0)) run.logs;
-}
+pub run_over : {V : Type 0} (now : V → Files) (may : V → Outcomes) (P Q : Type 0) (script : List ℕ) (left : Option (List ℕ)) (start : State) (before after : Option (List ℕ)) (status : Status) (old opened new : V) → IsSinceOpening start → (Q → P)
+    → (IsStill start → Keeps (now old) (now opened) (may old) (may opened)) → ChangesFrom start.found.end.file (now old) (now opened) (may old) (may opened)
+    → IsRunFrom now may P script left (record { state = start; logs = opened }) before after status new → IsRun now may Q script left start before after status old new
+run_over now may P Q script left start before after status old opened new since settled still opening ran =
+    let under : IsRunFrom now may Q script left (record { state = start; logs = opened }) before after status new = run_under now may P Q script left (record { state = start; logs = opened }) before after status new settled ran in
+    record {
+      opened = opened;
+      unchanged = still;
+      lines = under;
+      still = run_still now may Q script left start before after status old opened new since still under;
+      others = run_changes now may Q script left start before after status old opened new since opening under;
+    }
 
 none_there : (o : Option Position) → o ≡ None → IsSome o → ⊥
 none_there None none some = let bad : ⊥ = cc in bad
 none_there (Some at) none some = let bad : ⊥ = cc in bad
 
 -- a run ends well where nothing failed
-pub completes : (bytes : List ℕ) (left : Option (List ℕ)) (settings : Settings) (found : Found) (start : State) (before after : Option (List ℕ)) (status : Status) (settled untouched : Type 0) (now_old now_new : Files) (may_old may_new : Outcomes)
-    (script attributes sink logs images backups : Type 0) → EndedEarly status settings found untouched settled now_old may_new ⊎ IsRun bytes left start before after status settled now_old now_new may_old may_new → IsOpened settings (Ok found) status
+pub completes : {V : Type 0} (now : V → Files) (may : V → Outcomes) (bytes : List ℕ) (left : Option (List ℕ)) (settings : Settings) (found : Found) (start : State) (before after : Option (List ℕ)) (status : Status) (settled untouched : Type 0) (old new : V)
+    (script attributes sink logs images backups : Type 0) → EndedEarly status settings found untouched settled (now old) (may new) ⊎ IsRun now may settled bytes left start before after status old new → IsOpened settings (Ok found) status
     → IsFaultOf status script attributes sink logs images backups → IsSome (mark_place settings found) → length bytes ≤ 2 ^ 30 → ¬ script → ¬ attributes → ¬ sink → ¬ logs → (status ≡ Done) ⊎ (status ≡ NoMemory)
-completes bytes left settings found start before after status settled untouched now_old now_new may_old may_new script attributes sink logs images backups ran opens fault place short no_script no_attributes no_sink no_logs = by status ran opens fault
+completes now may bytes left settings found start before after status settled untouched old new script attributes sink logs images backups ran opens fault place short no_script no_attributes no_sink no_logs = by status ran opens fault
   where
-    by : (status : Status) → EndedEarly status settings found untouched settled now_old may_new ⊎ IsRun bytes left start before after status settled now_old now_new may_old may_new → IsOpened settings (Ok found) status → IsFaultOf status script attributes sink logs images backups → (status ≡ Done) ⊎ (status ≡ NoMemory)
+    by : (status : Status) → EndedEarly status settings found untouched settled (now old) (may new) ⊎ IsRun now may settled bytes left start before after status old new → IsOpened settings (Ok found) status → IsFaultOf status script attributes sink logs images backups → (status ≡ Done) ⊎ (status ≡ NoMemory)
     by Done ran opens fault = inl refl
     by NoMemory ran opens fault = inr refl
     by ScriptFault ran opens fault = absurd (no_script fault)
     by AttributesFault ran opens fault = absurd (no_attributes fault)
     by SinkFault ran opens fault = absurd (no_sink fault)
     by (VolumeFault Logs) ran opens fault = absurd (no_logs fault)
-    by (VolumeFault Images) ran opens fault = absurd opens
-    by (VolumeFault Backups) ran opens fault = absurd opens
-    by Usage ran opens fault = absurd opens
-    by (Damaged damage) ran opens fault = absurd opens
-    by Exists ran opens fault = absurd opens
-    by NoDatabase ran opens fault = absurd opens
-    by (BadAttribute name) ran opens fault = absurd opens
     by LogOut (inl none) opens fault = absurd (none_there (mark_place settings found) none place)
-    by LogOut (inr run) opens fault = absurd run.run.ends.0
+    by LogOut (inr run) opens fault = absurd run.lines.run.ends.0
     by ScriptTooLong (inl early) opens fault = absurd early
-    by ScriptTooLong (inr run) opens fault = let long = run.run.ends.0.0 in absurd (omega (arith, long, short))
+    by ScriptTooLong (inr run) opens fault = let long = run.lines.run.ends.0.0 in absurd (omega (arith, long, short))
+    by _ ran opens fault = absurd opens
 
 pub script_run_cause : (status : Status) (script sink logs : Type 0) → IsScriptRunEnd status script sink logs → IsFaultOf status script ⊥ sink logs ⊥ ⊥
 script_run_cause Usage script sink logs ends = absurd ends
 script_run_cause Exists script sink logs ends = absurd ends
 script_run_cause AttributesFault script sink logs ends = absurd ends
 script_run_cause (BadAttribute name) script sink logs ends = absurd ends
-script_run_cause Done script sink logs ends = ends
-script_run_cause ScriptFault script sink logs ends = ends
-script_run_cause SinkFault script sink logs ends = ends
-script_run_cause (VolumeFault stop) script sink logs ends = ends
-script_run_cause NoMemory script sink logs ends = ends
-script_run_cause (Damaged damage) script sink logs ends = ends
-script_run_cause NoDatabase script sink logs ends = ends
-script_run_cause LogOut script sink logs ends = ends
-script_run_cause ScriptTooLong script sink logs ends = ends
+script_run_cause _ script sink logs ends = ends

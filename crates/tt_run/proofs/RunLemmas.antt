@@ -5,7 +5,6 @@ use Rattle.std.proofs.lemmas.List.{map-append}
 use Rattle.std.proofs.lemmas.Grind.{flat_map-append}
 use Rattle.std.specs.Io.KnownBytes.{Appends}
 use Rattle.std.specs.List.{filter}
-use Rattle.tt_disk.specs.Laws.{keeps_then_keeps}
 use Rattle.tt_disk.specs.Volume.{Keeps}
 use Rattle.tt_disk.specs.declared.volume.Name.{Name}
 use Rattle.tt_flow.specs.Reading.{HasGiven, HasGivenTold}
@@ -15,24 +14,25 @@ use Rattle.tt_flow.specs.declared.lines.LineReader.{LineReader}
 use Rattle.tt_flow.proofs.Cuts.{script_lines_cut}
 use Rattle.tt_parse.specs.Parsing.{is_skipped}
 use Rattle.tt_value.specs.declared.reply.Reply.{Reply}
-use Rattle.tt_value.specs.declared.reply.Stop.TheVariants.{Logs, Images, Backups}
+use Rattle.tt_value.specs.declared.reply.Stop.TheVariants.{Logs}
 use Rattle.tt_log.specs.Walk.{Files}
 use Rattle.tt_log.specs.Logs.{LeavesForced}
-use Rattle.tt_model.specs.State.{State}
+use Rattle.tt_model.specs.State.{State, write_position}
 use Rattle.tt_engine.specs.declared.engine.Engine.{Engine}
 use Rattle.tt_engine.specs.declared.request.Request.{Request}
-use Rattle.tt_engine.specs.Engines.{CallsLog, Stands}
-use Rattle.tt_engine.specs.LogTrail.{HasFiles}
-use Rattle.tt_engine.specs.OnwardLaws.{same_onward, still_before}
-use Rattle.tt_engine.specs.Prefixes.{IsOnward, IsSinceOpening, IsStill, LogsAreSettled, OpensForced}
+use Rattle.tt_engine.specs.Engines.{CallsLog, LeavesLine, Stands}
+use Rattle.tt_engine.specs.FileLaws.{changes_none, changes_then}
+use Rattle.tt_engine.specs.LogTrail.{ChangesFrom, IsQuiet}
+use Rattle.tt_engine.specs.OnwardLaws.{same_onward, since_onward, still_before}
+use Rattle.tt_engine.specs.Prefixes.{IsOnward, IsSinceOpening, IsStill}
 use Rattle.tt_engine.specs.Requests.{Answers, answer, script_ended}
 use Rattle.tt_run.specs.declared.status.Status.{Status}
-use Rattle.tt_run.specs.declared.status.Status.TheVariants.{Done, ScriptFault, AttributesFault, SinkFault, VolumeFault, NoMemory, Usage, Damaged, Exists, NoDatabase, BadAttribute, LogOut, ScriptTooLong}
+use Rattle.tt_run.specs.declared.status.Status.TheVariants.{Done, ScriptFault, SinkFault, VolumeFault, ScriptTooLong}
 use Rattle.tt_run.specs.declared.top_call.NextLine.TheVariants.{Asks, Skipped}
 use Rattle.tt_run.specs.Replies.{text_of}
 use Rattle.tt_run.specs.Requests.{IsRequest, AreRequests, is_answered}
-use Rattle.tt_run.specs.Loops.{HasEnded, HasMoved, IsNext, IsRunning, IsStep}
-use Rattle.tt_run.specs.Runs.{texts, Goes, AreAnswered, AreLinesDone, HasRun, HasLeft, IsLeft}
+use Rattle.tt_run.specs.Loops.{HasEnded, IsNext, IsRunning, WasSettled}
+use Rattle.tt_run.specs.Runs.{AreAnswered, AreLinesDone, AreLinesBetween, HasForced, HasLeft, IsLineBetween, IsRunFrom, Moment, UnlessLogsFailed, texts}
 
 abbrev Answered : Type 0
 Answered = List (Request × Reply)
@@ -42,9 +42,10 @@ Outcomes = Name → Option (List ℕ) → Type 0
 
 -- ---- lines and replies
 
-Goes-last : (s mid after : State) (answered : Answered) (line : Request × Reply) → Goes s answered mid → Answers line.0 mid line.1 after → Goes s (answered ++ line ∷ []) after
-Goes-last s mid after [] line is one = (after, subst (λ (t : State). Answers line.0 t line.1 after) is one, refl)
-Goes-last s mid after (x ∷ answered) line (next, first, goes) one = (next, first, Goes-last next mid after answered line goes one)
+AreLinesBetween-last : {V : Type 0} (now : V → Files) (may : V → Outcomes) (settled : Type 0) (moment mid after : Moment V) (answered : Answered) (line : Request × Reply) → AreLinesBetween now may settled moment answered mid → IsLineBetween now may settled mid line after
+    → AreLinesBetween now may settled moment (answered ++ line ∷ []) after
+AreLinesBetween-last now may settled moment mid after [] line is one = (after, subst (λ t. IsLineBetween now may settled t line after) is one, refl)
+AreLinesBetween-last now may settled moment mid after (x ∷ answered) line (next, first, lines) one = (next, first, AreLinesBetween-last now may settled next mid after answered line lines one)
 
 AreRequests-last : (lines : List (Option (List ℕ))) (requests : List Request) (line : Option (List ℕ)) (request : Request) → AreRequests lines requests → IsRequest line request → AreRequests (lines ++ line ∷ []) (requests ++ request ∷ [])
 AreRequests-last [] [] line request all one = (one, tt)
@@ -66,20 +67,21 @@ skipped_line [] line is = ap (λ b. cond b (line ∷ []) []) is
 skipped_line (l ∷ lines) line is = ap (λ more. cond (is_answered l) (l ∷ more) more) (skipped_line lines line is)
 
 -- one line more was skipped
-skipped_more : (start s : State) (lines : List (Option (List ℕ))) (answered : Answered) (line : Option (List ℕ)) → AreAnswered start lines answered s → is_answered line ≡ false → AreAnswered start (lines ++ line ∷ []) answered s
-skipped_more start s lines answered line so_far is = record {
+skipped_more : {V : Type 0} (now : V → Files) (may : V → Outcomes) (settled : Type 0) (start moment : Moment V) (lines : List (Option (List ℕ))) (answered : Answered) (line : Option (List ℕ)) → AreAnswered now may settled start lines answered moment → is_answered line ≡ false
+    → AreAnswered now may settled start (lines ++ line ∷ []) answered moment
+skipped_more now may settled start moment lines answered line so_far is = record {
   requests = subst (λ (l : List (Option (List ℕ))). AreRequests l (map (λ x. x.0) answered)) (sym (skipped_line lines line is)) so_far.requests;
   replies = so_far.replies;
 }
 
 -- one line more was answered
-answered_more : (start s after : State) (lines : List (Option (List ℕ))) (answered : Answered) (line : Option (List ℕ)) (request : Request) (reply : Reply) → AreAnswered start lines answered s → is_answered line ≡ true → IsRequest line request
-    → Answers request s reply after → AreAnswered start (lines ++ line ∷ []) (answered ++ (request, reply) ∷ []) after
-answered_more start s after lines answered line request reply so_far is asks told = record {
+answered_more : {V : Type 0} (now : V → Files) (may : V → Outcomes) (settled : Type 0) (start moment next : Moment V) (lines : List (Option (List ℕ))) (answered : Answered) (line : Option (List ℕ)) (request : Request) (reply : Reply) → AreAnswered now may settled start lines answered moment
+    → is_answered line ≡ true → IsRequest line request → IsLineBetween now may settled moment (request, reply) next → AreAnswered now may settled start (lines ++ line ∷ []) (answered ++ (request, reply) ∷ []) next
+answered_more now may settled start moment next lines answered line request reply so_far is asks leads = record {
   requests = subst (λ (l : List (Option (List ℕ))). AreRequests l (map (λ x. x.0) (answered ++ (request, reply) ∷ []))) (sym (answered_line lines line is))
       (subst (λ (l : List Request). AreRequests (filter is_answered lines ++ line ∷ []) l) (sym (map-append (λ x. x.0) answered ((request, reply) ∷ [])))
       (AreRequests-last (filter is_answered lines) (map (λ x. x.0) answered) line request so_far.requests asks));
-  replies = Goes-last start s after answered (request, reply) so_far.replies told;
+  replies = AreLinesBetween-last now may settled start moment next answered (request, reply) so_far.replies leads;
 }
 
 -- the lines that were given are the first of the script
@@ -142,11 +144,11 @@ asked_next script given seen line request reader left same not_skipped asks read
 pub keeps_same : (now : Files) (may : Outcomes) → Keeps now now may may
 keeps_same now may = record { reads = λ n. refl; crash = λ n c left. left }
 
--- what is left where nothing was done
-pub left_here : (s : State) (settled : Type 0) (now : Files) (may : Outcomes) → HasFiles s now → OpensForced s now → (settled → LogsAreSettled now may) → IsLeft s settled now now may may
-left_here s settled now may files opens again = record { files = files; opens = opens; settled_again = again; still = λ still. keeps_same now may }
+-- the log files have what is forced, where a weaker word on the start is enough for the one that is known
+pub forced_under : {V : Type 0} (now : V → Files) (may : V → Outcomes) (P Q : Type 0) (moment : Moment V) → (Q → P) → HasForced now may P moment → HasForced now may Q moment
+forced_under now may P Q moment settled holds = record { files = holds.files; opens = holds.opens; settled_again = λ q. holds.settled_again (settled q) }
 
-onward_twice : (s mid after : State) → IsOnward s mid → IsOnward mid after → IsOnward s after
+pub onward_twice : (s mid after : State) → IsOnward s mid → IsOnward mid after → IsOnward s after
 onward_twice s mid after one two =
     let forced = one.forced in
     let file = one.file in
@@ -154,135 +156,274 @@ onward_twice s mid after one two =
     let later = two.file in
     record { found = two.found ∙ one.found; forced = omega (arith, forced, more); file = omega (arith, file, later) }
 
-pub begins : (start : State) (engine : Engine) (now : Files) (may : Outcomes) → Stands engine now start → HasMoved start start engine engine now now may may
-begins start engine now may stands = record { stands = stands; kept = λ k. k; onward = same_onward start; still = λ still. (still, keeps_same now may) }
+-- what is left, as it is seen from before
+left_under : {V : Type 0} (now : V → Files) (may : V → Outcomes) (P Q : Type 0) (status : Status) (behind : Moment V) (last : State) (new : V) → (Q → P) → HasLeft now may P status behind last new → HasLeft now may Q status behind last new
+left_under now may P Q status behind last new settled left = by status left
+  where
+    by : (status : Status) → HasLeft now may P status behind last new → HasLeft now may Q status behind last new
+    by (VolumeFault stop) l = λ q. l (settled q)
+    by _ l = record { holds = forced_under now may P Q (record { state = last; logs = new }) settled l.holds; quiet = l.quiet }
 
-pub moved_twice : (start s after : State) (e_1 e_2 e_3 : Engine) (now_1 now_2 now_3 : Files) (may_1 may_2 may_3 : Outcomes) → HasMoved start s e_1 e_2 now_1 now_2 may_1 may_2 → HasMoved s after e_2 e_3 now_2 now_3 may_2 may_3
-    → HasMoved start after e_1 e_3 now_1 now_3 may_1 may_3
-moved_twice start s after e_1 e_2 e_3 now_1 now_2 now_3 may_1 may_2 may_3 one two = record {
-  stands = two.stands;
-  kept = λ k. two.kept (one.kept k);
-  onward = onward_twice start s after one.onward two.onward;
-  still = λ still. let (mid, more) = two.still still in let (first, few) = one.still mid in (first, keeps_then_keeps now_1 now_2 now_3 may_1 may_2 may_3 few more);
+lines_under : {V : Type 0} (now : V → Files) (may : V → Outcomes) (P Q : Type 0) (moment after : Moment V) (answered : Answered) → (Q → P) → AreLinesBetween now may P moment answered after → AreLinesBetween now may Q moment answered after
+lines_under now may P Q moment after [] settled is = is
+lines_under now may P Q moment after (x ∷ answered) settled (next, first, more) = (
+  next,
+  record { answers = first.answers; onward = first.onward; quiet = first.quiet; others = first.others; holds = forced_under now may P Q next settled first.holds },
+  lines_under now may P Q next after answered settled more,
+)
+
+pub run_under : {V : Type 0} (now : V → Files) (may : V → Outcomes) (P Q : Type 0) (script : List ℕ) (left : Option (List ℕ)) (start : Moment V) (before after : Option (List ℕ)) (status : Status) (new : V) → (Q → P)
+    → IsRunFrom now may P script left start before after status new → IsRunFrom now may Q script left start before after status new
+run_under now may P Q script left start before after status new settled ran = record {
+  behind = ran.behind;
+  last = ran.last;
+  begins = forced_under now may P Q start settled ran.begins;
+  run = record {
+    lines = ran.run.lines;
+    replies = ran.run.replies;
+    answers = record { requests = ran.run.answers.requests; replies = lines_under now may P Q start ran.behind ran.run.replies settled ran.run.answers.replies };
+    ends = ran.run.ends;
+    texts_written = ran.run.texts_written;
+  };
+  onward = ran.onward;
+  others = ran.others;
+  logs = left_under now may P Q status ran.behind ran.last new settled ran.logs;
 }
 
--- what is left, as it is seen from before
-pub left_from : (status : Status) (s last : State) (P Q : Type 0) (now_1 now_2 now_3 : Files) (may_1 may_2 may_3 : Outcomes) → (Q → P) → (IsStill last → Keeps now_1 now_2 may_1 may_2) → HasLeft status s last P now_2 now_3 may_2 may_3
-    → HasLeft status s last Q now_1 now_3 may_1 may_3
-left_from status s last P Q now_1 now_2 now_3 may_1 may_2 may_3 settled before left = by status left
-  where
-    further : IsLeft last P now_2 now_3 may_2 may_3 → IsLeft last Q now_1 now_3 may_1 may_3
-    further l = record { files = l.files; opens = l.opens; settled_again = λ q. l.settled_again (settled q); still = λ still. keeps_then_keeps now_1 now_2 now_3 may_1 may_2 may_3 (before still) (l.still still) }
+-- ---- what a whole run changes
 
-    by : (status : Status) → HasLeft status s last P now_2 now_3 may_2 may_3 → HasLeft status s last Q now_1 now_3 may_1 may_3
-    by (VolumeFault stop) l = λ q. l (settled q)
-    by Done l = further l
-    by ScriptFault l = further l
-    by AttributesFault l = further l
-    by SinkFault l = further l
-    by NoMemory l = further l
-    by Usage l = further l
-    by (Damaged damage) l = further l
-    by Exists l = further l
-    by NoDatabase l = further l
-    by (BadAttribute name) l = further l
-    by LogOut l = further l
-    by ScriptTooLong l = further l
+lines_onward : {V : Type 0} (now : V → Files) (may : V → Outcomes) (settled : Type 0) (moment after : Moment V) (answered : Answered) → AreLinesBetween now may settled moment answered after → IsOnward moment.state after.state
+lines_onward now may settled moment after [] is = subst (λ t. IsOnward moment.state t.state) (sym is) (same_onward moment.state)
+lines_onward now may settled moment after (x ∷ answered) (next, first, more) = onward_twice moment.state next.state after.state first.onward (lines_onward now may settled next after answered more)
+
+-- lines change no file but the log files from the one on that was the current one at the start
+lines_change : {V : Type 0} (now : V → Files) (may : V → Outcomes) (settled : Type 0) (moment after : Moment V) (answered : Answered) → AreLinesBetween now may settled moment answered after
+    → ChangesFrom (write_position moment.state).file (now moment.logs) (now after.logs) (may moment.logs) (may after.logs)
+lines_change now may settled moment after [] is =
+    subst (λ t. ChangesFrom (write_position moment.state).file (now moment.logs) (now t.logs) (may moment.logs) (may t.logs)) (sym is) (changes_none (write_position moment.state).file (now moment.logs) (may moment.logs))
+lines_change now may settled moment after (x ∷ answered) (next, first, more) =
+    changes_then (write_position moment.state).file (write_position next.state).file (now moment.logs) (now next.logs) (now after.logs) (may moment.logs) (may next.logs) (may after.logs) first.onward.file first.others
+    (lines_change now may settled next after answered more)
+
+pub run_changes : {V : Type 0} (now : V → Files) (may : V → Outcomes) (settled : Type 0) (script : List ℕ) (left : Option (List ℕ)) (start : State) (before after : Option (List ℕ)) (status : Status) (old opened new : V) → IsSinceOpening start
+    → ChangesFrom start.found.end.file (now old) (now opened) (may old) (may opened) → IsRunFrom now may settled script left (record { state = start; logs = opened }) before after status new
+    → ChangesFrom start.found.end.file (now old) (now new) (may old) (may new)
+run_changes now may settled script left start before after status old opened new since opening ran =
+    let first : Moment _ = record { state = start; logs = opened } in
+    let onward = lines_onward now may settled first ran.behind ran.run.replies ran.run.answers.replies in
+    let lines = changes_then (write_position start).file (write_position ran.behind.state).file (now opened) (now ran.behind.logs) (now new) (may opened) (may ran.behind.logs) (may new) onward.file
+    (lines_change now may settled first ran.behind ran.run.replies ran.run.answers.replies) ran.others in
+    changes_then start.found.end.file (write_position start).file (now old) (now opened) (now new) (may old) (may opened) (may new) since.file opening lines
+
+-- lines up to a state in which nothing was forced since opening leave the volume as it was
+lines_still : {V : Type 0} (now : V → Files) (may : V → Outcomes) (settled : Type 0) (moment after : Moment V) (answered : Answered) → IsSinceOpening moment.state → IsStill after.state → AreLinesBetween now may settled moment answered after → after.logs ≡ moment.logs
+lines_still now may settled moment after [] since still is = ap (λ t. t.logs) is
+lines_still now may settled moment after (x ∷ answered) since still (next, first, more) =
+    let later = since_onward moment.state next.state since first.onward in
+    let before = still_before next.state after.state later (lines_onward now may settled next after answered more) still in
+    let quiet = still_before moment.state next.state since first.onward before.0 in
+    lines_still now may settled next after answered later still more ∙ first.quiet quiet.1
+
+-- a run up to such a state changed no file
+pub run_still : {V : Type 0} (now : V → Files) (may : V → Outcomes) (settled : Type 0) (script : List ℕ) (left : Option (List ℕ)) (start : State) (before after : Option (List ℕ)) (status : Status) (old opened new : V) → IsSinceOpening start
+    → (IsStill start → Keeps (now old) (now opened) (may old) (may opened)) → (ran : IsRunFrom now may settled script left (record { state = start; logs = opened }) before after status new) → IsStill ran.last
+    → UnlessLogsFailed status (Keeps (now old) (now new) (may old) (may new))
+run_still {V} now may settled script left start before after status old opened new since unchanged ran still = by status ran.logs
+  where
+    behind_onward : IsOnward start ran.behind.state
+    behind_onward = lines_onward now may settled (record { state = start; logs = opened }) ran.behind ran.run.replies ran.run.answers.replies
+
+    at_end : IsStill ran.behind.state × IsQuiet ran.behind.state ran.last
+    at_end = still_before ran.behind.state ran.last (since_onward start ran.behind.state since behind_onward) ran.onward still
+
+    unmoved : ran.behind.logs ≡ opened
+    unmoved = lines_still now may settled (record { state = start; logs = opened }) ran.behind ran.run.replies since at_end.0 ran.run.answers.replies
+
+    by : (status : Status) → HasLeft now may settled status ran.behind ran.last new → UnlessLogsFailed status (Keeps (now old) (now new) (may old) (may new))
+    by (VolumeFault stop) l = tt
+    by _ l = subst (λ (v : V). Keeps (now old) (now v) (may old) (may v)) (sym (l.quiet at_end.1 ∙ unmoved)) (unchanged ((still_before start ran.behind.state since behind_onward at_end.0).0))
 
 -- ---- one line
 
 -- a run that goes on behind a line that was skipped
-pub goes_past : (script left : List ℕ) (rest : Option (List ℕ)) (start s : State) (before after : Option (List ℕ)) (old new : LineReader) (run : IsRunning script left start before after old s) → IsNext script run.lines (Ok Skipped) new rest
-    → (others : List ℕ) × (rest ≡ Some others) × IsRunning script others start before after new s
-goes_past script left rest start s before after old new run (line, skipped, (more, is_left, given)) = (
-  more,
-  is_left,
-  record { lines = run.lines ++ line ∷ []; answered = run.answered; given = given; answers = skipped_more start s run.lines run.answered line run.answers skipped; texts_written = run.texts_written },
-)
-
--- a run that goes on behind a line
-pub goes_on : (script left : List ℕ) (rest : Option (List ℕ)) (start s behind : State) (before middle after : Option (List ℕ)) (old new : LineReader) (request : Request) (reply : Reply)
-    (run : IsRunning script left start before middle old s) → IsNext script run.lines (Ok (Asks request)) new rest → Answers request s reply behind → Appends middle after (text_of reply)
-    → (others : List ℕ) × (rest ≡ Some others) × IsRunning script others start before after new behind
-goes_on script left rest start s behind before middle after old new request reply run (line, is, asks, (more, is_left, given)) told put = (
+pub goes_past : {V : Type 0} (now : V → Files) (may : V → Outcomes) (first : Engine) (start : Moment V) (script left : List ℕ) (rest before after : Option (List ℕ)) (old new : LineReader) (e : Engine) (moment : Moment V)
+    (run : IsRunning now may first start script left before after old e moment) → IsNext script run.lines (Ok Skipped) new rest
+    → (others : List ℕ) × (rest ≡ Some others) × IsRunning now may first start script others before after new e moment
+goes_past now may first start script left rest before after old new e moment run (line, skipped, (more, is_left, given)) = (
   more,
   is_left,
   record {
     lines = run.lines ++ line ∷ [];
-    answered = run.answered ++ (request, reply) ∷ [];
+    replies = run.replies;
     given = given;
-    answers = answered_more start s behind run.lines run.answered line request reply run.answers is asks told;
-    texts_written = subst (λ (t : List ℕ). Appends before after t) (sym (texts-last run.answered (request, reply))) (appended_twice before middle after (texts run.answered) (text_of reply) run.texts_written put);
+    answers = skipped_more now may (WasSettled now may first start) start moment run.lines run.replies line run.answers skipped;
+    texts_written = run.texts_written;
+    stands = run.stands;
+    kept = run.kept;
+    holds = run.holds;
+    begins = run.begins;
   },
 )
 
--- a run whose sink failed behind a line
-pub failed_put : (script left : List ℕ) (rest : Option (List ℕ)) (start s behind : State) (before middle after : Option (List ℕ)) (old new : LineReader) (request : Request) (reply : Reply) (n : ℕ)
-    (run : IsRunning script left start before middle old s) → IsNext script run.lines (Ok (Asks request)) new rest → Answers request s reply behind → Appends middle after (take n (text_of reply))
-    → HasRun script rest start before after SinkFault behind behind
-failed_put script left rest start s behind before middle after old new request reply n run (line, is, asks, (more, is_left, given)) told put = record {
-  lines = run.lines ++ line ∷ [];
-  answered = run.answered ++ (request, reply) ∷ [];
-  answers = answered_more start s behind run.lines run.answered line request reply run.answers is asks told;
-  ends = (first_lines script more (run.lines ++ line ∷ []) new given, refl);
-  texts_written = (run.answered, (request, reply), n, refl, appended_twice before middle after (texts run.answered) (take n (text_of reply)) run.texts_written put);
+-- how the engine and the log files stand behind a line, as it is seen from the line's own beginning
+pub record HasMoved {V : Type 0} (now : V → Files) (may : V → Outcomes) (old : Engine) (moment : Moment V) (e : Engine) (line : Request × Reply) (next : Moment V) : Type 0 where
+  pub answers : Answers line.0 moment.state line.1 next.state
+  pub onward : IsOnward moment.state next.state
+  pub quiet : IsQuiet moment.state next.state → next.logs ≡ moment.logs
+  pub others : ChangesFrom (write_position moment.state).file (now moment.logs) (now next.logs) (may moment.logs) (may next.logs)
+  pub stands : Stands e (now next.logs) next.state
+  pub kept : LeavesForced old.log (now moment.logs) (may moment.logs) → LeavesForced e.log (now next.logs) (may next.logs)
+  pub holds : HasForced now may (LeavesForced e.log (now next.logs) (may next.logs)) next
+
+line_between : {V : Type 0} (now : V → Files) (may : V → Outcomes) (first : Engine) (start : Moment V) (old e : Engine) (moment next : Moment V) (line : Request × Reply) → (WasSettled now may first start → LeavesForced old.log (now moment.logs) (may moment.logs))
+    → HasMoved now may old moment e line next → IsLineBetween now may (WasSettled now may first start) moment line next
+line_between now may first start old e moment next line settled moved = record {
+  answers = moved.answers;
+  onward = moved.onward;
+  quiet = moved.quiet;
+  others = moved.others;
+  holds = forced_under now may (LeavesForced e.log (now next.logs) (may next.logs)) (WasSettled now may first start) next (λ w. moved.kept (settled w)) moved.holds;
 }
 
+-- a run that goes on behind a line
+pub goes_on : {V : Type 0} (now : V → Files) (may : V → Outcomes) (first : Engine) (start : Moment V) (script left : List ℕ) (rest before middle after : Option (List ℕ)) (old new : LineReader) (e e' : Engine) (moment next : Moment V) (request : Request) (reply : Reply)
+    (run : IsRunning now may first start script left before middle old e moment) → IsNext script run.lines (Ok (Asks request)) new rest → HasMoved now may e moment e' (request, reply) next → Appends middle after (text_of reply)
+    → (others : List ℕ) × (rest ≡ Some others) × IsRunning now may first start script others before after new e' next
+goes_on now may first start script left rest before middle after old new e e' moment next request reply run (line, is, asks, (more, is_left, given)) moved put =
+    let leads = line_between now may first start e e' moment next (request, reply) run.kept moved in (
+      more,
+      is_left,
+      record {
+        lines = run.lines ++ line ∷ [];
+        replies = run.replies ++ (request, reply) ∷ [];
+        given = given;
+        answers = answered_more now may (WasSettled now may first start) start moment next run.lines run.replies line request reply run.answers is asks leads;
+        texts_written = subst (λ (t : List ℕ). Appends before after t) (sym (texts-last run.replies (request, reply))) (appended_twice before middle after (texts run.replies) (text_of reply) run.texts_written put);
+        stands = moved.stands;
+        kept = λ w. moved.kept (run.kept w);
+        holds = leads.holds;
+        begins = run.begins;
+      },
+    )
+
+-- a run whose sink failed behind a line
+pub failed_put : {V : Type 0} (now : V → Files) (may : V → Outcomes) (first : Engine) (start : Moment V) (script left : List ℕ) (rest before middle after : Option (List ℕ)) (old new : LineReader) (e e' : Engine) (moment next : Moment V) (request : Request) (reply : Reply) (n : ℕ)
+    (run : IsRunning now may first start script left before middle old e moment) → IsNext script run.lines (Ok (Asks request)) new rest → HasMoved now may e moment e' (request, reply) next
+    → Appends middle after (take n (text_of reply)) → IsRunFrom now may (WasSettled now may first start) script rest start before after SinkFault next.logs
+failed_put now may first start script left rest before middle after old new e e' moment next request reply n run (line, is, asks, (more, is_left, given)) moved put =
+    let leads = line_between now may first start e e' moment next (request, reply) run.kept moved in
+    record {
+      behind = next;
+      last = next.state;
+      begins = run.begins;
+      run = record {
+        lines = run.lines ++ line ∷ [];
+        replies = run.replies ++ (request, reply) ∷ [];
+        answers = answered_more now may (WasSettled now may first start) start moment next run.lines run.replies line request reply run.answers is asks leads;
+        ends = (first_lines script more (run.lines ++ line ∷ []) new given, refl);
+        texts_written = (run.replies, (request, reply), n, refl, appended_twice before middle after (texts run.replies) (take n (text_of reply)) run.texts_written put);
+      };
+      onward = same_onward next.state;
+      others = changes_none (write_position next.state).file (now next.logs) (may next.logs);
+      logs = record { holds = leads.holds; quiet = λ quiet. refl };
+    }
+
 -- a run whose log files failed in a line
-pub failed_line : (script left : List ℕ) (rest : Option (List ℕ)) (start s : State) (before after : Option (List ℕ)) (old new : LineReader) (request : Request) (run : IsRunning script left start before after old s)
-    → IsNext script run.lines (Ok (Asks request)) new rest → CallsLog request s → HasRun script rest start before after (VolumeFault Logs) s (answer request s).1
-failed_line script left rest start s before after old new request run (line, is, asks, (more, is_left, given)) calls =
+pub failed_line : {V : Type 0} (now : V → Files) (may : V → Outcomes) (first : Engine) (start : Moment V) (script left : List ℕ) (rest before after : Option (List ℕ)) (old new : LineReader) (e : Engine) (moment : Moment V) (logs : V) (request : Request)
+    (run : IsRunning now may first start script left before after old e moment) → IsNext script run.lines (Ok (Asks request)) new rest → CallsLog request moment.state
+    → IsOnward moment.state (answer request moment.state).1 → ChangesFrom (write_position moment.state).file (now moment.logs) (now logs) (may moment.logs) (may logs)
+    → (LeavesForced e.log (now moment.logs) (may moment.logs) → LeavesLine request moment.state (may logs)) → IsRunFrom now may (WasSettled now may first start) script rest start before after (VolumeFault Logs) logs
+failed_line now may first start script left rest before after old new e moment logs request run (line, is, asks, (more, is_left, given)) calls onward others_stay leaves =
     let (others, split) = first_lines script more (run.lines ++ line ∷ []) new given in
     record {
-      lines = run.lines;
-      answered = run.answered;
-      answers = run.answers;
-      ends = inr (record { line = line; more = others; request = request; next = split ∙ append_assoc run.lines (line ∷ []) others; is_one = is; asks = asks; leads = refl; calls = calls });
-      texts_written = run.texts_written;
+      behind = moment;
+      last = (answer request moment.state).1;
+      begins = run.begins;
+      run = record {
+        lines = run.lines;
+        replies = run.replies;
+        answers = run.answers;
+        ends = inr (record { line = line; more = others; request = request; next = split ∙ append_assoc run.lines (line ∷ []) others; is_one = is; asks = asks; leads = refl; calls = calls });
+        texts_written = run.texts_written;
+      };
+      onward = onward;
+      others = others_stay;
+      logs = λ w. (leaves (run.kept w)).leaves;
     }
 
 -- a run whose script failed, or is too long
 
-pub failed_script : (script left : List ℕ) (rest : Option (List ℕ)) (start s : State) (before after : Option (List ℕ)) (old : LineReader) (run : IsRunning script left start before after old s) → AreLinesDone script rest run.lines ScriptFault
-    → HasRun script rest start before after ScriptFault s s
-failed_script script left rest start s before after old run done = record { lines = run.lines; answered = run.answered; answers = run.answers; ends = (done, refl); texts_written = run.texts_written }
+pub failed_script : {V : Type 0} (now : V → Files) (may : V → Outcomes) (first : Engine) (start : Moment V) (script left : List ℕ) (rest before after : Option (List ℕ)) (old : LineReader) (e : Engine) (moment : Moment V)
+    (run : IsRunning now may first start script left before after old e moment) → AreLinesDone script rest run.lines ScriptFault
+    → IsRunFrom now may (WasSettled now may first start) script rest start before after ScriptFault moment.logs
+failed_script now may first start script left rest before after old e moment run done = record {
+  behind = moment;
+  last = moment.state;
+  begins = run.begins;
+  run = record { lines = run.lines; replies = run.replies; answers = run.answers; ends = (done, refl); texts_written = run.texts_written };
+  onward = same_onward moment.state;
+  others = changes_none (write_position moment.state).file (now moment.logs) (may moment.logs);
+  logs = record { holds = run.holds; quiet = λ quiet. refl };
+}
 
-pub long_script : (script left : List ℕ) (rest : Option (List ℕ)) (start s : State) (before after : Option (List ℕ)) (old : LineReader) (run : IsRunning script left start before after old s) → AreLinesDone script rest run.lines ScriptTooLong
-    → HasRun script rest start before after ScriptTooLong s s
-long_script script left rest start s before after old run done = record { lines = run.lines; answered = run.answered; answers = run.answers; ends = (done, refl); texts_written = run.texts_written }
+pub long_script : {V : Type 0} (now : V → Files) (may : V → Outcomes) (first : Engine) (start : Moment V) (script left : List ℕ) (rest before after : Option (List ℕ)) (old : LineReader) (e : Engine) (moment : Moment V)
+    (run : IsRunning now may first start script left before after old e moment) → AreLinesDone script rest run.lines ScriptTooLong
+    → IsRunFrom now may (WasSettled now may first start) script rest start before after ScriptTooLong moment.logs
+long_script now may first start script left rest before after old e moment run done = record {
+  behind = moment;
+  last = moment.state;
+  begins = run.begins;
+  run = record { lines = run.lines; replies = run.replies; answers = run.answers; ends = (done, refl); texts_written = run.texts_written };
+  onward = same_onward moment.state;
+  others = changes_none (write_position moment.state).file (now moment.logs) (may moment.logs);
+  logs = record { holds = run.holds; quiet = λ quiet. refl };
+}
 
 -- a run at the end of its script
-pub ended_script : (script left : List ℕ) (rest : Option (List ℕ)) (start s : State) (before after : Option (List ℕ)) (reader old : LineReader) (engine new : Engine) (now_old now_new : Files) (may_old may_new : Outcomes) (status : Status)
-    (run : IsRunning script left start before after old s) → AreLinesDone script rest run.lines Done → HasEnded status s engine now_old now_new may_old may_new
-    → IsStep script rest start s before after reader engine new now_old now_new may_old may_new (Some status)
-ended_script script left rest start s before after reader old engine new now_old now_new may_old may_new status run done ended = by status ended
+pub ended_script : {V : Type 0} (now : V → Files) (may : V → Outcomes) (first : Engine) (start : Moment V) (script left : List ℕ) (rest before after : Option (List ℕ)) (old : LineReader) (e : Engine) (moment : Moment V) (new : V) (status : Status)
+    (run : IsRunning now may first start script left before after old e moment) → AreLinesDone script rest run.lines Done → HasEnded now may e moment new status
+    → ChangesFrom (write_position moment.state).file (now moment.logs) (now new) (may moment.logs) (may new) → IsRunFrom now may (WasSettled now may first start) script rest start before after status new
+ended_script now may first start script left rest before after old e moment new status run done ended others_stay = by status ended
   where
-    by : (status : Status) → HasEnded status s engine now_old now_new may_old may_new → IsStep script rest start s before after reader engine new now_old now_new may_old may_new (Some status)
-    by Done e = (s, script_ended s, record { lines = run.lines; answered = run.answered; answers = run.answers; ends = (done, refl); texts_written = run.texts_written }, e.0, e.1)
-    by (VolumeFault Logs) e = (s, s, record { lines = run.lines; answered = run.answered; answers = run.answers; ends = inl (done, refl, e.2); texts_written = run.texts_written }, e.0, e.1)
-    by (VolumeFault Images) e = absurd e
-    by (VolumeFault Backups) e = absurd e
-    by ScriptFault e = absurd e
-    by AttributesFault e = absurd e
-    by SinkFault e = absurd e
-    by NoMemory e = absurd e
-    by Usage e = absurd e
-    by (Damaged damage) e = absurd e
-    by Exists e = absurd e
-    by NoDatabase e = absurd e
-    by (BadAttribute name) e = absurd e
-    by LogOut e = absurd e
-    by ScriptTooLong e = absurd e
+    by : (status : Status) → HasEnded now may e moment new status → IsRunFrom now may (WasSettled now may first start) script rest start before after status new
+    by Done l = record {
+      behind = moment;
+      last = script_ended moment.state;
+      begins = run.begins;
+      run = record { lines = run.lines; replies = run.replies; answers = run.answers; ends = (done, refl); texts_written = run.texts_written };
+      onward = l.1;
+      others = others_stay;
+      logs = record { holds = forced_under now may (WasSettled now may e moment) (WasSettled now may first start) (record { state = script_ended moment.state; logs = new }) run.kept l.0.holds; quiet = l.0.quiet };
+    }
+    by (VolumeFault Logs) l = record {
+      behind = moment;
+      last = moment.state;
+      begins = run.begins;
+      run = record { lines = run.lines; replies = run.replies; answers = run.answers; ends = inl (done, refl, l.1); texts_written = run.texts_written };
+      onward = same_onward moment.state;
+      others = others_stay;
+      logs = λ w. l.0 (run.kept w);
+    }
+    by _ l = absurd l
 
 -- nothing was read yet
-pub begins_run : (script : List ℕ) (start : State) (before : Option (List ℕ)) (reader : LineReader) → HasGiven script [] reader script → IsRunning script script start before before reader start
-begins_run script start before reader given = record { lines = []; answered = []; given = given; answers = record { requests = tt; replies = refl }; texts_written = appended_none before }
+pub begins_run : {V : Type 0} (now : V → Files) (may : V → Outcomes) (e : Engine) (start : Moment V) (script : List ℕ) (before : Option (List ℕ)) (reader : LineReader) → HasGiven script [] reader script → Stands e (now start.logs) start.state
+    → HasForced now may (WasSettled now may e start) start → IsRunning now may e start script script before before reader e start
+begins_run now may e start script before reader given stands holds = record {
+  lines = [];
+  replies = [];
+  given = given;
+  answers = record { requests = tt; replies = refl };
+  texts_written = appended_none before;
+  stands = stands;
+  kept = λ w. w;
+  holds = holds;
+  begins = holds;
+}
 
--- how a whole run ended, as it is seen from its start
-pub ran_from : (script : List ℕ) (left : Option (List ℕ)) (start s answered last : State) (before after : Option (List ℕ)) (status : Status) (first engine : Engine) (now_1 now_2 now_3 : Files) (may_1 may_2 may_3 : Outcomes)
-    → IsSinceOpening start → HasMoved start s first engine now_1 now_2 may_1 may_2 → IsSinceOpening s → IsOnward s last
-    → HasLeft status answered last (LeavesForced engine.log now_2 may_2) now_2 now_3 may_2 may_3 → IsOnward start last × HasLeft status answered last (LeavesForced first.log now_1 may_1) now_1 now_3 may_1 may_3
-ran_from script left start s answered last before after status first engine now_1 now_2 now_3 may_1 may_2 may_3 since moved later onward ended = (
-  onward_twice start s last moved.onward onward,
-  left_from status answered last _ _ now_1 now_2 now_3 may_1 may_2 may_3 moved.kept (λ still. (moved.still ((still_before s last later onward still).0)).1) ended,
-)
+-- ---- counts of faults
+
+-- a count is as it was behind a line with which the run doesn't end
+pub count_goes_on : (status : Status) (before now : ℕ) → (None ≡ Some status) ⊎ (now ≡ before) → now ≡ before
+count_goes_on status before now (inl ended) = let none : ⊥ = cc in absurd none
+count_goes_on status before now (inr same) = same

@@ -1,7 +1,6 @@
 -- A run while it goes on: what one line more, and the end of the script, make of it.
 use Rattle.std.specs.Prelude.{◌≡◌, ℕ, List, [], ◌∷◌, ◌++◌, true, false, Option, Some, None, Result, Ok, Err}
 use Rattle.std.specs.Io.KnownBytes.{Appends}
-use Rattle.tt_disk.specs.Volume.{Keeps}
 use Rattle.tt_disk.specs.declared.volume.Name.{Name}
 use Rattle.tt_flow.specs.Reading.{HasGiven, HasGivenTold}
 use Rattle.tt_flow.specs.declared.lines.LineReader.{LineReader}
@@ -13,7 +12,7 @@ use Rattle.tt_model.specs.State.{State}
 use Rattle.tt_engine.specs.declared.engine.Engine.{Engine}
 use Rattle.tt_engine.specs.declared.request.Request.{Request}
 use Rattle.tt_engine.specs.Engines.{EndCallsLog, Stands}
-use Rattle.tt_engine.specs.Prefixes.{IsOnward, IsStill}
+use Rattle.tt_engine.specs.Prefixes.{IsOnward, LeavesOpening}
 use Rattle.tt_engine.specs.Requests.{script_ended}
 use Rattle.tt_disk.specs.declared.volume.Failed.{Failed}
 use Rattle.tt_run.specs.declared.top_call.NextLine.{NextLine}
@@ -21,15 +20,24 @@ use Rattle.tt_run.specs.declared.top_call.NextLine.TheVariants.{Asks, Skipped, E
 use Rattle.tt_run.specs.declared.status.Status.{Status}
 use Rattle.tt_run.specs.declared.status.Status.TheVariants.{Done, ScriptFault, SinkFault, VolumeFault, ScriptTooLong}
 use Rattle.tt_run.specs.Requests.{IsRequest, is_answered}
-use Rattle.tt_run.specs.Runs.{AreAnswered, AreLinesDone, HasLeft, HasRun, texts}
+use Rattle.tt_run.specs.Runs.{AreAnswered, AreLinesDone, HasForced, IsLeft, Moment, IsRunFrom, texts}
 
--- The lines of a script were answered so, the texts of the replies were written, and the run goes on from this state.
-pub record IsRunning (script left : List ℕ) (start : State) (before after : Option (List ℕ)) (reader : LineReader) (s : State) : Type 0 where
+-- When the run began a crash could leave the log only as it read.
+abbrev pub WasSettled : {V : Type 0} → (V → Files) → (V → Name → Option (List ℕ) → Type 0) → Engine → Moment V → Type 0
+WasSettled now may first start = LeavesForced first.log (now start.logs) (may start.logs)
+
+-- The lines of a script were answered so since the run began, the texts of the replies were written, and the run goes on from this
+-- moment. The engine stands for its state.
+pub record IsRunning {V : Type 0} (now : V → Files) (may : V → Name → Option (List ℕ) → Type 0) (first : Engine) (start : Moment V) (script left : List ℕ) (before after : Option (List ℕ)) (reader : LineReader) (e : Engine) (moment : Moment V) : Type 0 where
   pub lines : List (Option (List ℕ))
-  pub answered : List (Request × Reply)
+  pub replies : List (Request × Reply)
   pub given : HasGiven script lines reader left
-  pub answers : AreAnswered start lines answered s
-  pub texts_written : Appends before after (texts answered)
+  pub answers : AreAnswered now may (WasSettled now may first start) start lines replies moment
+  pub texts_written : Appends before after (texts replies)
+  pub stands : Stands e (now moment.logs) moment.state
+  pub kept : WasSettled now may first start → LeavesForced e.log (now moment.logs) (may moment.logs)
+  pub holds : HasForced now may (WasSettled now may first start) moment
+  pub begins : HasForced now may (WasSettled now may first start) start
 
 -- what came next in a script of which these lines were given: a line that is skipped, one that asks for something, or none any more
 abbrev pub IsNext : List ℕ → List (Option (List ℕ)) → Result NextLine Failed → LineReader → Option (List ℕ) → Type 0
@@ -54,29 +62,21 @@ IsRunEnd SinkFault script sink logs = sink
 IsRunEnd (VolumeFault Logs) script sink logs = logs
 IsRunEnd _ script sink logs = ⊥
 
--- The engine and the log files stand for the state, where they stood for an earlier one before.
-pub record HasMoved (s after : State) (old new : Engine) (now_old now_new : Files) (may_old may_new : Name → Option (List ℕ) → Type 0) : Type 0 where
-  pub stands : Stands new now_new after
-  pub kept : LeavesForced old.log now_old may_old → LeavesForced new.log now_new may_new
-  pub onward : IsOnward s after
-  pub still : IsStill after → IsStill s × Keeps now_old now_new may_old may_new
-
 -- a run ends so at the end of its script
 abbrev pub IsEnd : Status → Type 0 → Type 0
 IsEnd Done logs = Unit {0}
 IsEnd (VolumeFault Logs) logs = logs
 IsEnd _ logs = ⊥
 
--- what is left then, and the state in which it ended
-abbrev pub HasEnded : Status → State → Engine → Files → Files → (Name → Option (List ℕ) → Type 0) → (Name → Option (List ℕ) → Type 0) → Type 0
-HasEnded Done s old now_old now_new may_old may_new = HasLeft Done s (script_ended s) (LeavesForced old.log now_old may_old) now_old now_new may_old may_new × IsOnward s (script_ended s)
-HasEnded (VolumeFault Logs) s old now_old now_new may_old may_new = HasLeft (VolumeFault Logs) s s (LeavesForced old.log now_old may_old) now_old now_new may_old may_new × IsOnward s s × EndCallsLog s
-HasEnded _ s old now_old now_new may_old may_new = ⊥
+-- what the end of a script leaves, where the lines led to this moment
+abbrev pub HasEnded : {V : Type 0} → (V → Files) → (V → Name → Option (List ℕ) → Type 0) → Engine → Moment V → V → Status → Type 0
+HasEnded now may e moment new Done =
+    IsLeft now may (WasSettled now may e moment) moment (script_ended moment.state) new × IsOnward moment.state (script_ended moment.state)
+HasEnded now may e moment new (VolumeFault Logs) = (WasSettled now may e moment → LeavesOpening moment.state.forced moment.state (may new)) × EndCallsLog moment.state
+HasEnded now may e moment new _ = ⊥
 
 -- After one line more, which was answered or skipped, the run goes on, or has ended.
-abbrev pub IsStep : List ℕ → Option (List ℕ) → State → State → Option (List ℕ) → Option (List ℕ) → LineReader → Engine → Engine → Files → Files → (Name → Option (List ℕ) → Type 0) → (Name → Option (List ℕ) → Type 0) → Option Status → Type 0
-IsStep script left start s before after reader old new now_old now_new may_old may_new None =
-    (state : State) × (rest : List ℕ) × (left ≡ Some rest) × IsRunning script rest start before after reader state × HasMoved s state old new now_old now_new may_old may_new
-IsStep script left start s before after reader old new now_old now_new may_old may_new (Some status) =
-    (answered last : State) × HasRun script left start before after status answered last
-    × HasLeft status answered last (LeavesForced old.log now_old may_old) now_old now_new may_old may_new × IsOnward s last
+abbrev pub IsStep : {V : Type 0} → (V → Files) → (V → Name → Option (List ℕ) → Type 0) → Engine → Moment V → List ℕ → Option (List ℕ) → Option (List ℕ) → Option (List ℕ) → LineReader → Engine → V → Option Status → Type 0
+IsStep now may first start script left before after reader e new None =
+    (state : State) × (rest : List ℕ) × (left ≡ Some rest) × IsRunning now may first start script rest before after reader e (record { state = state; logs = new })
+IsStep now may first start script left before after reader e new (Some status) = IsRunFrom now may (WasSettled now may first start) script left start before after status new

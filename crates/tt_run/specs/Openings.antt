@@ -45,6 +45,13 @@ IsFaultOf (VolumeFault Images) script attributes sink logs images backups = imag
 IsFaultOf (VolumeFault Backups) script attributes sink logs images backups = backups
 IsFaultOf _ script attributes sink logs images backups = Unit {0}
 
+-- each count of faults is as it was, unless the status names its device
+pub record OthersStay (status : Status) (script attributes sink logs : Type 0) : Type 0 where
+  pub script_stays : (status ≡ ScriptFault) ⊎ script
+  pub attributes_stay : (status ≡ AttributesFault) ⊎ attributes
+  pub sink_stays : (status ≡ SinkFault) ⊎ sink
+  pub logs_stay : (status ≡ VolumeFault Logs) ⊎ logs
+
 -- the attributes, memory or the log files failed before the database was open
 abbrev pub FailedEarly : Status → Type 0
 FailedEarly AttributesFault = Unit {0}
@@ -107,7 +114,7 @@ pub record HasNoPlace (attributes : Option (List ℕ)) (files : Files) : Type 0 
   pub none : mark_place settings found ≡ None
 
 -- A run over what was found ended before its first line: in the attributes, for want of memory, since the Mark has no place, or in
--- the log files. There a crash leaves what was found, and perhaps the Mark.
+-- the log files. There this is untouched, and a crash leaves what was found, and perhaps the Mark.
 abbrev pub EndedEarly : Status → Settings → Found → Type 0 → Type 0 → Files → (Name → Option (List ℕ) → Type 0) → Type 0
 EndedEarly AttributesFault settings found untouched settled now may = Unit {0}
 EndedEarly NoMemory settings found untouched settled now may = Unit {0}

@@ -1,4 +1,4 @@
--- What a run of a script writes, and what it leaves of the log files.
+-- What a run of a script writes, and what its lines leave of the log files.
 use Rattle.std.specs.Prelude.{◌≤◌, ◌≡◌, ◌<◌, ◌-◌, ◌⊎◌, ℕ, List, [], ◌∷◌, ◌++◌, length, take, map, flat_map, filter, true, Option, Some}
 use Rattle.std.specs.Io.KnownBytes.{Appends}
 use Rattle.tt_disk.specs.Volume.{Keeps}
@@ -7,10 +7,10 @@ use Rattle.tt_flow.specs.Script.{script_lines, ended_lines, script_most}
 use Rattle.tt_value.specs.declared.reply.Reply.{Reply}
 use Rattle.tt_value.specs.declared.reply.Stop.TheVariants.{Logs}
 use Rattle.tt_log.specs.Walk.{Files}
-use Rattle.tt_model.specs.State.{State}
+use Rattle.tt_model.specs.State.{State, write_position}
 use Rattle.tt_engine.specs.declared.request.Request.{Request}
 use Rattle.tt_engine.specs.Engines.{CallsLog, EndCallsLog}
-use Rattle.tt_engine.specs.LogTrail.{HasFiles}
+use Rattle.tt_engine.specs.LogTrail.{ChangesFrom, HasFiles, IsQuiet}
 use Rattle.tt_engine.specs.Prefixes.{IsOnward, IsStill, LeavesOpening, LogsAreSettled, OpensForced}
 use Rattle.tt_engine.specs.Requests.{Answers, answer, script_ended}
 use Rattle.tt_run.specs.declared.status.Status.{Status}
@@ -18,21 +18,45 @@ use Rattle.tt_run.specs.declared.status.Status.TheVariants.{Done, ScriptFault, S
 use Rattle.tt_run.specs.Replies.{text_of}
 use Rattle.tt_run.specs.Requests.{IsRequest, AreRequests, is_answered}
 
+-- ---- moments
+
+-- A moment between two lines: the state of the model, and the volume of the log files.
+pub record Moment (V : Type 0) : Type 0 where
+  pub state : State
+  pub logs : V
+
+-- At this moment the log files have what the state has forced: those files are there that are the state's; opening finds just its
+-- forced entries; and it finds the same in each map of files that a crash may leave, where that was so at the start.
+pub record HasForced {V : Type 0} (now : V → Files) (may : V → Name → Option (List ℕ) → Type 0) (settled : Type 0) (moment : Moment V) : Type 0 where
+  pub files : HasFiles moment.state (now moment.logs)
+  pub opens : OpensForced moment.state (now moment.logs)
+  pub settled_again : settled → LogsAreSettled (now moment.logs) (may moment.logs)
+
 -- ---- lines and replies
 
 -- the texts of the replies, one behind the other
 abbrev pub texts : List (Request × Reply) → List ℕ
 texts answered = flat_map (λ line. text_of line.1) answered
 
--- From a state on, each line has a reply that it may have there, and leaves the state for the next; the last leaves this one.
-abbrev pub Goes : State → List (Request × Reply) → State → Type 0
-Goes s [] after = after ≡ s
-Goes s (line ∷ lines) after = (mid : State) × Answers line.0 s line.1 mid × Goes mid lines after
+-- At one moment a line has a reply that it may have there, and it leads to the next moment, at which the log files have what is forced,
+-- too. A line that forces nothing more and begins no file leaves the volume as it was; and no line changes another file than the log
+-- files from the current one on.
+pub record IsLineBetween {V : Type 0} (now : V → Files) (may : V → Name → Option (List ℕ) → Type 0) (settled : Type 0) (moment : Moment V) (line : Request × Reply) (next : Moment V) : Type 0 where
+  pub answers : Answers line.0 moment.state line.1 next.state
+  pub onward : IsOnward moment.state next.state
+  pub quiet : IsQuiet moment.state next.state → next.logs ≡ moment.logs
+  pub others : ChangesFrom (write_position moment.state).file (now moment.logs) (now next.logs) (may moment.logs) (may next.logs)
+  pub holds : HasForced now may settled next
 
--- These lines of a script were answered so from a state on, and leave that state; blank lines and comments have no reply.
-pub record AreAnswered (start : State) (lines : List (Option (List ℕ))) (answered : List (Request × Reply)) (after : State) : Type 0 where
+-- From a moment on, each line leads to the next moment; behind the last line it is this one.
+abbrev pub AreLinesBetween : {V : Type 0} → (V → Files) → (V → Name → Option (List ℕ) → Type 0) → Type 0 → Moment V → List (Request × Reply) → Moment V → Type 0
+AreLinesBetween now may settled moment [] after = after ≡ moment
+AreLinesBetween {V} now may settled moment (line ∷ lines) after = (next : Moment V) × IsLineBetween now may settled moment line next × AreLinesBetween now may settled next lines after
+
+-- These lines of a script were answered so from a moment on, and led to that one; blank lines and comments have no reply.
+pub record AreAnswered {V : Type 0} (now : V → Files) (may : V → Name → Option (List ℕ) → Type 0) (settled : Type 0) (start : Moment V) (lines : List (Option (List ℕ))) (answered : List (Request × Reply)) (after : Moment V) : Type 0 where
   pub requests : AreRequests (filter is_answered lines) (map (λ line. line.0) answered)
-  pub replies : Goes start answered after
+  pub replies : AreLinesBetween now may settled start answered after
 
 -- Which lines of a script were done when the run ended so. At a fault of the script each line whose line feed was taken was; at a
 -- fault of the sink the last one was answered in part.
@@ -43,7 +67,7 @@ AreLinesDone script left lines ScriptFault = (rest : List ℕ) × (left ≡ Some
 AreLinesDone script left lines SinkFault = (more : List (Option (List ℕ))) × (script_lines script ≡ lines ++ more)
 AreLinesDone script left lines _ = ⊥
 
--- A line behind these is one that is answered. From this state it leads to that one, and it has calls on the log files.
+-- A line behind these is one that is answered. From this state it leads to that one, and it forces more or begins a file.
 pub record LeadsTo (script : List ℕ) (lines : List (Option (List ℕ))) (s last : State) : Type 0 where
   pub line : Option (List ℕ)
   pub more : List (Option (List ℕ))
@@ -54,8 +78,9 @@ pub record LeadsTo (script : List ℕ) (lines : List (Option (List ℕ))) (s las
   pub leads : last ≡ (answer request s).1
   pub calls : CallsLog request s
 
--- In which state the run ended so, where the lines that were answered left the first one. A fault of the log files came at the end of
--- the script, with all lines done, or in the next line, which had then made a part of its entries; and either has calls on them.
+-- In which state the run ended so, where the lines that were answered led to the first one. A fault of the log files came at the end of
+-- the script, with all lines done and something to force, or in the next line, which had then made a part of its entries, and forces
+-- more or begins a file.
 abbrev pub EndsIn : List ℕ → Option (List ℕ) → List (Option (List ℕ)) → State → State → Status → Type 0
 EndsIn script left lines s last Done = AreLinesDone script left lines Done × (last ≡ script_ended s)
 EndsIn script left lines s last (VolumeFault Logs) = (AreLinesDone script left lines Done × (last ≡ s) × EndCallsLog s) ⊎ LeadsTo script lines s last
@@ -66,36 +91,52 @@ abbrev pub AreTexts : Option (List ℕ) → Option (List ℕ) → List (Request 
 AreTexts before after answered SinkFault = (front : List (Request × Reply)) × (last : Request × Reply) × (n : ℕ) × (answered ≡ front ++ last ∷ []) × Appends before after (texts front ++ take n (text_of last.1))
 AreTexts before after answered _ = Appends before after (texts answered)
 
--- The lines of a script were answered so from a state on, up to a status, and the texts of the replies were written. The lines that
--- were answered left the one state, and the run ended in the other.
-pub record HasRun (script : List ℕ) (left : Option (List ℕ)) (start : State) (before after : Option (List ℕ)) (status : Status) (s last : State) : Type 0 where
+-- The lines of a script were answered so from a moment on, up to a status, and the texts of the replies were written. They led to the
+-- moment behind them, and the run ended in the last state.
+pub record HasRun {V : Type 0} (now : V → Files) (may : V → Name → Option (List ℕ) → Type 0) (settled : Type 0) (script : List ℕ) (left : Option (List ℕ)) (start : Moment V) (before after : Option (List ℕ)) (status : Status) (behind : Moment V) (last : State) : Type 0 where
   pub lines : List (Option (List ℕ))
-  pub answered : List (Request × Reply)
-  pub answers : AreAnswered start lines answered s
-  pub ends : EndsIn script left lines s last status
-  pub texts_written : AreTexts before after answered status
+  pub replies : List (Request × Reply)
+  pub answers : AreAnswered now may settled start lines replies behind
+  pub ends : EndsIn script left lines behind.state last status
+  pub texts_written : AreTexts before after replies status
 
 -- ---- what is left of the log files
 
--- What is left where no call on them failed: the log files that are there are those of the last state; opening finds just its forced
--- entries; it finds the same in each map of files that a crash may leave, where that was so at the start; and where nothing was
--- forced and no file began, no file changed.
-pub record IsLeft (last : State) (settled : Type 0) (now_old now_new : Files) (may_old may_new : Name → Option (List ℕ) → Type 0) : Type 0 where
-  pub files : HasFiles last now_new
-  pub opens : OpensForced last now_new
-  pub settled_again : settled → LogsAreSettled now_new may_new
-  pub still : IsStill last → Keeps now_old now_new may_old may_new
+-- What is left where no call on the log files failed: they have what the last state has forced, and where the end of the run forced
+-- nothing, the volume is as the lines left it.
+pub record IsLeft {V : Type 0} (now : V → Files) (may : V → Name → Option (List ℕ) → Type 0) (settled : Type 0) (behind : Moment V) (last : State) (new : V) : Type 0 where
+  pub holds : HasForced now may settled (record { state = last; logs = new })
+  pub quiet : IsQuiet behind.state last → new ≡ behind.logs
 
 -- What is left when the run ended so. Where a call on the log files failed, opening what a crash may leave finds what a prefix of
 -- the last state's trail stands for, which has all entries that were forced before the line that failed.
-abbrev pub HasLeft : Status → State → State → Type 0 → Files → Files → (Name → Option (List ℕ) → Type 0) → (Name → Option (List ℕ) → Type 0) → Type 0
-HasLeft (VolumeFault stop) s last settled now_old now_new may_old may_new = settled → LeavesOpening s.forced last may_new
-HasLeft _ s last settled now_old now_new may_old may_new = IsLeft last settled now_old now_new may_old may_new
+abbrev pub HasLeft : {V : Type 0} → (V → Files) → (V → Name → Option (List ℕ) → Type 0) → Type 0 → Status → Moment V → State → V → Type 0
+HasLeft now may settled (VolumeFault stop) behind last new = settled → LeavesOpening behind.state.forced last (may new)
+HasLeft now may settled _ behind last new = IsLeft now may settled behind last new
 
--- A run of a script from a state on: what was answered, written and left, all of one list of lines with their replies.
-pub record IsRun (script : List ℕ) (left : Option (List ℕ)) (start : State) (before after : Option (List ℕ)) (status : Status) (settled : Type 0) (now_old now_new : Files) (may_old may_new : Name → Option (List ℕ) → Type 0) : Type 0 where
-  pub answered_state : State
-  pub last_state : State
-  pub run : HasRun script left start before after status answered_state last_state
-  pub onward : IsOnward start last_state
-  pub logs : HasLeft status answered_state last_state settled now_old now_new may_old may_new
+-- From a moment on the lines of a script were done, up to a status: what was answered, written and left, all of one list of lines with
+-- their replies, and of the moments between them. What came behind the last answered line changed no file but the log files from the
+-- current one on.
+pub record IsRunFrom {V : Type 0} (now : V → Files) (may : V → Name → Option (List ℕ) → Type 0) (settled : Type 0) (script : List ℕ) (left : Option (List ℕ)) (start : Moment V) (before after : Option (List ℕ)) (status : Status) (new : V) : Type 0 where
+  pub behind : Moment V
+  pub last : State
+  pub begins : HasForced now may settled start
+  pub run : HasRun now may settled script left start before after status behind last
+  pub onward : IsOnward behind.state last
+  pub others : ChangesFrom (write_position behind.state).file (now behind.logs) (now new) (may behind.logs) (may new)
+  pub logs : HasLeft now may settled status behind last new
+
+-- this is so, unless a call on the log files failed
+abbrev pub UnlessLogsFailed : Status → Type 0 → Type 0
+UnlessLogsFailed (VolumeFault stop) unchanged = Unit {0}
+UnlessLogsFailed _ unchanged = unchanged
+
+-- A run of a script, from the state that opening found. Where its Mark forces nothing and begins no file, opening changed no file; and
+-- where nothing was forced up to the last state, and no file began, the whole run didn't, unless a call on the log files failed.
+-- However it ended, it changed no file but the log files from the one on in which the log that was found ends.
+pub record IsRun {V : Type 0} (now : V → Files) (may : V → Name → Option (List ℕ) → Type 0) (settled : Type 0) (script : List ℕ) (left : Option (List ℕ)) (start : State) (before after : Option (List ℕ)) (status : Status) (old new : V) : Type 0 where
+  pub opened : V
+  pub unchanged : IsStill start → Keeps (now old) (now opened) (may old) (may opened)
+  pub lines : IsRunFrom now may settled script left (record { state = start; logs = opened }) before after status new
+  pub still : IsStill lines.last → UnlessLogsFailed status (Keeps (now old) (now new) (may old) (may new))
+  pub others : ChangesFrom start.found.end.file (now old) (now new) (may old) (may new)

@@ -8,15 +8,16 @@ ghost use Rattle.tt_set.specs.Attributes.{AreInRange, Says};
 ghost use Rattle.tt_set.specs.declared.settings.Settings.{Settings};
 ghost use Rattle.tt_log.specs.Logs.{IsOpen, LeavesForced};
 ghost use Rattle.tt_model.specs.Found.{Found};
-ghost use Rattle.tt_model.specs.State.{State};
+ghost use Rattle.tt_model.specs.State.{State, write_position};
 ghost use Rattle.tt_engine.specs.Engines.{Stands};
-ghost use Rattle.tt_engine.specs.Prefixes.{IsSinceOpening, LogsAreSettled};
+ghost use Rattle.tt_engine.specs.LogTrail.{ChangesFrom};
+ghost use Rattle.tt_engine.specs.Prefixes.{LogsAreSettled};
 ghost use Rattle.tt_engine.specs.Requests.{IsGiven};
 ghost use Rattle.tt_engine.specs.Starts.{begun_over, database};
 ghost use Rattle.tt_run.specs.Loops.{HasEnded, IsEnd, IsLine, IsNext, IsRunEnd, IsRunning, IsStep};
-ghost use Rattle.tt_run.specs.Openings.{EndedEarly, HasNoPlace, IsBeforeLines, IsCreateEnd, IsCreateText, IsCreated, IsFaultOf, IsOpened, IsScriptRunEnd, LeavesNoOther, LeavesNoLog, mark_place};
+ghost use Rattle.tt_run.specs.Openings.{EndedEarly, HasNoPlace, IsBeforeLines, IsCreateEnd, IsCreateText, IsCreated, IsFaultOf, IsOpened, IsScriptRunEnd, LeavesNoOther, LeavesNoLog, OthersStay, mark_place};
 ghost use Rattle.tt_run.specs.Replies.{text_of};
-ghost use Rattle.tt_run.specs.Runs.{IsRun};
+ghost use Rattle.tt_run.specs.Runs.{IsRun, Moment, IsRunFrom};
 ghost use Rattle.tt_run.specs.Settings.{IsBadSo, IsRefusedFor};
 ghost use Rattle.tt_run.specs.Words.{form_of};
 
@@ -106,15 +107,16 @@ pub fn run<
         → database (L.now logs.old) ≡ Err refusal → (script.new ≡ script.old) × (sink.new ≡ sink.old)
         × Keeps (L.now logs.old) (L.now logs.new) (L.may logs.old) (L.may logs.new) }
 
-    // The lines that were answered, what was written, what the log files have and what a crash leaves, all of one run of the model
-    // from the state that opening found; unless it ended before the lines.
+    // The lines that were answered, what was written, what the log files have between two lines and at the end, and what a crash
+    // leaves, all of one run of the model from the state that opening found; unless it ended before the lines.
     ensures ran { (bytes text : List ℕ) (settings : Settings) (found : Found) → L.told
         → form_of (map string_bytes words.now) ≡ Some Action.Run → S.left script.old ≡ Some bytes
         → A.left attributes.old ≡ Some text → Says text (Ok settings) → database (L.now logs.old) ≡ Ok found
-        → EndedEarly result settings found ((script.new ≡ script.old) × (sink.new ≡ sink.old))
+        → EndedEarly result settings found ((script.new ≡ script.old) × (sink.new ≡ sink.old)
+        × ChangesFrom found.end.file (L.now logs.old) (L.now logs.new) (L.may logs.old) (L.may logs.new))
         (LogsAreSettled (L.now logs.old) (L.may logs.old)) (L.now logs.old) (L.may logs.new)
-        ⊎ IsRun bytes (S.left script.new) (begun_over settings (L.now logs.old) found) (K.given sink.old) (K.given sink.new) result
-        (LogsAreSettled (L.now logs.old) (L.may logs.old)) (L.now logs.old) (L.now logs.new) (L.may logs.old) (L.may logs.new) }
+        ⊎ IsRun L.now L.may (LogsAreSettled (L.now logs.old) (L.may logs.old)) bytes (S.left script.new)
+        (begun_over settings (L.now logs.old) found) (K.given sink.old) (K.given sink.new) result logs.old logs.new }
 
     // Where no count rose, a script of at most 2^30 bytes is done to its end, and a database is made where there is none. Want of
     // memory alone may keep both from beginning.
@@ -139,6 +141,10 @@ pub fn run<
         (Rose (A.faults attributes.old) (A.faults attributes.new)) (Rose (K.faults sink.old) (K.faults sink.new))
         (Rose (L.faults logs.old) (L.faults logs.new)) (Rose (C.faults images.old) (C.faults images.new))
         (Rose (B.faults backups.old) (B.faults backups.new)) }
+
+    // No other count rises: where a call failed, the status names its device.
+    ensures others { OthersStay result (S.faults script.new ≡ S.faults script.old) (A.faults attributes.new ≡ A.faults attributes.old)
+        (K.faults sink.new ≡ K.faults sink.old) (L.faults logs.new ≡ L.faults logs.old) }
 {
     let _ = rt;
     let _ = images;
@@ -166,6 +172,8 @@ fn create<K: Sink, L: Volume>(sink: &mut K, logs: &mut L) -> Status
     ensures unbegun { IsBeforeLines result (result ≡ Status.LogOut) → (sink.new ≡ sink.old)
         × (L.told → Keeps (L.now logs.old) (L.now logs.new) (L.may logs.old) (L.may logs.new)) }
     ensures statuses { IsCreateEnd result (Rose (K.faults sink.old) (K.faults sink.new)) (Rose (L.faults logs.old) (L.faults logs.new)) }
+    ensures sink_stays { (result ≡ Status.SinkFault) ⊎ (K.faults sink.new ≡ K.faults sink.old) }
+    ensures logs_stay { (result ≡ Status.VolumeFault Stop.Logs) ⊎ (L.faults logs.new ≡ L.faults logs.old) }
 {
     match logs.size(Name::Log(0)) {
         Ok(None) => {}
@@ -191,10 +199,11 @@ fn run_script<S: Source, K: Sink, L: Volume>(
 ) -> Status
     requires settings { AreInRange settings.now }
     ensures ran { (bytes : List ℕ) (found : Found) → L.told → S.left script.old ≡ Some bytes → database (L.now logs.old) ≡ Ok found
-        → EndedEarly result settings.now found ((script.new ≡ script.old) × (sink.new ≡ sink.old))
+        → EndedEarly result settings.now found ((script.new ≡ script.old) × (sink.new ≡ sink.old)
+        × ChangesFrom found.end.file (L.now logs.old) (L.now logs.new) (L.may logs.old) (L.may logs.new))
         (LogsAreSettled (L.now logs.old) (L.may logs.old)) (L.now logs.old) (L.may logs.new)
-        ⊎ IsRun bytes (S.left script.new) (begun_over settings.now (L.now logs.old) found) (K.given sink.old) (K.given sink.new) result
-        (LogsAreSettled (L.now logs.old) (L.may logs.old)) (L.now logs.old) (L.now logs.new) (L.may logs.old) (L.may logs.new) }
+        ⊎ IsRun L.now L.may (LogsAreSettled (L.now logs.old) (L.may logs.old)) bytes (S.left script.new)
+        (begun_over settings.now (L.now logs.old) found) (K.given sink.old) (K.given sink.new) result logs.old logs.new }
     ensures opened { L.told → IsOpened settings.now (database (L.now logs.old)) result }
     ensures refused { (refusal : OpenRefusal) → L.told → database (L.now logs.old) ≡ Err refusal → (script.new ≡ script.old)
         × (sink.new ≡ sink.old) × Keeps (L.now logs.old) (L.now logs.new) (L.may logs.old) (L.may logs.new) }
@@ -202,6 +211,9 @@ fn run_script<S: Source, K: Sink, L: Volume>(
         × (L.told → Keeps (L.now logs.old) (L.now logs.new) (L.may logs.old) (L.may logs.new)) }
     ensures statuses { IsScriptRunEnd result (Rose (S.faults script.old) (S.faults script.new))
         (Rose (K.faults sink.old) (K.faults sink.new)) (Rose (L.faults logs.old) (L.faults logs.new)) }
+    ensures script_stays { (result ≡ Status.ScriptFault) ⊎ (S.faults script.new ≡ S.faults script.old) }
+    ensures sink_stays { (result ≡ Status.SinkFault) ⊎ (K.faults sink.new ≡ K.faults sink.old) }
+    ensures logs_stay { (result ≡ Status.VolumeFault Stop.Logs) ⊎ (L.faults logs.new ≡ L.faults logs.old) }
 {
     match Engine::start(alloc, settings, logs) {
         Ok(engine) => do_lines(alloc, engine, script, sink, logs),
@@ -223,13 +235,16 @@ fn do_lines<S: Source, K: Sink, L: Volume>(
 ) -> Status
     requires open { L.told → IsOpen engine.log (L.now logs.old) (L.may logs.old) }
     ensures ran { L.told → (bytes : List ℕ) (start : State) → S.left script.old ≡ Some bytes → Stands engine (L.now logs.old) start
-        → IsSinceOpening start
-        → IsRun bytes (S.left script.new) start (K.given sink.old) (K.given sink.new) result
-        (LeavesForced engine.log (L.now logs.old) (L.may logs.old)) (L.now logs.old) (L.now logs.new) (L.may logs.old) (L.may logs.new) }
+        → IsRunFrom L.now L.may (LeavesForced engine.log (L.now logs.old) (L.may logs.old)) bytes (S.left script.new)
+        (record { state = start; logs = logs.old }) (K.given sink.old) (K.given sink.new) result logs.new }
     ensures cause { IsRunEnd result (Rose (S.faults script.old) (S.faults script.new)) (Rose (K.faults sink.old) (K.faults sink.new))
         (Rose (L.faults logs.old) (L.faults logs.new)) }
+    ensures script_stays { (result ≡ Status.ScriptFault) ⊎ (S.faults script.new ≡ S.faults script.old) }
+    ensures sink_stays { (result ≡ Status.SinkFault) ⊎ (K.faults sink.new ≡ K.faults sink.old) }
+    ensures logs_stay { (result ≡ Status.VolumeFault Stop.Logs) ⊎ (L.faults logs.new ≡ L.faults logs.old) }
 {
     let mut engine = engine;
+    engine.opens_after_crash(logs);
     let mut reader = LineReader::new();
     let mut line = LineBuf::new();
     'lines: loop {
@@ -260,17 +275,17 @@ fn do_line<S: Source, K: Sink, L: Volume>(
 ) -> Option<Status>
     requires open { L.told → IsOpen engine.old.log (L.now logs.old) (L.may logs.old) }
     ensures open { L.told → IfNone result (IsOpen engine.new.log (L.now logs.new) (L.may logs.new)) }
-    ensures step { L.told → (bytes left : List ℕ) (start s : State) (before : Option (List ℕ)) → S.left script.old ≡ Some left
-        → IsRunning bytes left start before (K.given sink.old) reader.old s → Stands engine.old (L.now logs.old) s → IsSinceOpening s
-        → IsStep bytes (S.left script.new) start s before (K.given sink.new) reader.new engine.old engine.new (L.now logs.old)
-        (L.now logs.new) (L.may logs.old) (L.may logs.new) result }
+    ensures step { L.told → (first : Engine) (start : Moment L) (bytes left : List ℕ) (before : Option (List ℕ)) (s : State)
+        → S.left script.old ≡ Some left
+        → IsRunning L.now L.may first start bytes left before (K.given sink.old) reader.old engine.old (record { state = s; logs = logs.old })
+        → IsStep L.now L.may first start bytes (S.left script.new) before (K.given sink.new) reader.new engine.new logs.new result }
     ensures fewer { IfNone result (bytes_to_come reader.new < bytes_to_come reader.old) }
     ensures cause { IfSome result (λ status. IsRunEnd status (Rose (S.faults script.old) (S.faults script.new))
         (Rose (K.faults sink.old) (K.faults sink.new)) (Rose (L.faults logs.old) (L.faults logs.new))) }
-    ensures later { (S.faults script.old ≤ S.faults script.new) × (K.faults sink.old ≤ K.faults sink.new)
-        × (L.faults logs.old ≤ L.faults logs.new) }
+    ensures script_stays { (result ≡ Some Status.ScriptFault) ⊎ (S.faults script.new ≡ S.faults script.old) }
+    ensures sink_stays { (result ≡ Some Status.SinkFault) ⊎ (K.faults sink.new ≡ K.faults sink.old) }
+    ensures logs_stay { (result ≡ Some (Status.VolumeFault Stop.Logs)) ⊎ (L.faults logs.new ≡ L.faults logs.old) }
 {
-    engine.opens_after_crash(logs);
     let request = match next_line(alloc, reader, line, script) {
         Ok(NextLine::Asks(request)) => request,
         Ok(NextLine::Skipped) => return None,
@@ -292,10 +307,12 @@ fn do_line<S: Source, K: Sink, L: Volume>(
 // Ends a run at the end of its script: the log is forced.
 fn end_script<L: Volume>(engine: &mut Engine, logs: &mut L) -> Status
     requires open { L.told → IsOpen engine.old.log (L.now logs.old) (L.may logs.old) }
-    ensures ends { L.told → (s : State) → Stands engine.old (L.now logs.old) s → IsSinceOpening s
-        → HasEnded result s engine.old (L.now logs.old) (L.now logs.new) (L.may logs.old) (L.may logs.new) }
+    ensures ends { L.told → (s : State) → Stands engine.old (L.now logs.old) s
+        → HasEnded L.now L.may engine.old (record { state = s; logs = logs.old }) logs.new result }
+    ensures others { L.told → (s : State) → Stands engine.old (L.now logs.old) s → ChangesFrom (write_position s).file (L.now logs.old)
+        (L.now logs.new) (L.may logs.old) (L.may logs.new) }
     ensures cause { IsEnd result (Rose (L.faults logs.old) (L.faults logs.new)) }
-    ensures later { L.faults logs.old ≤ L.faults logs.new }
+    ensures logs_stay { (result ≡ Status.VolumeFault Stop.Logs) ⊎ (L.faults logs.new ≡ L.faults logs.old) }
 {
     match engine.end(logs) {
         Ok(()) => {

@@ -1,4 +1,5 @@
 use Rattle.std.proofs.Common.{◌∙◌, sym, true≢false}
+use Rattle.tt_engine.specs.FileLaws.{two_change}
 use Rattle.tt_engine.proofs.TrailLemmas.{quiet_stays, Added, still_trail, left_prefix, prefix_more}
 use Rattle.tt_engine.proofs.journal.add.Goals as goal
 
@@ -35,3 +36,9 @@ returns-in-Ok-clause-quiet g c told s h q =
 pub returns-in-Err-clause-fails : goal.returns-in-Err-clause-fails
 returns-in-Err-clause-fails g c told s h q =
     true≢false (sym c.in-Err.ensures.fails ∙ quiet_stays c.args.log.now _ _ s c.args.entry.now (c.requires.open told) h c.requires.entry q)
+
+pub returns-in-Ok-clause-others : goal.returns-in-Ok-clause-others
+returns-in-Ok-clause-others g c told = two_change c.args.log.now.number _ _ _ _ (c.append.ensures.others told)
+
+pub returns-in-Err-clause-others : goal.returns-in-Err-clause-others
+returns-in-Err-clause-others g c told = two_change c.args.log.now.number _ _ _ _ (c.append.ensures.others told)

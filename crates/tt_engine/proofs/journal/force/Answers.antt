@@ -1,4 +1,5 @@
 use Rattle.std.proofs.Common.{arith}
+use Rattle.tt_engine.specs.FileLaws.{one_changes}
 use Rattle.tt_engine.proofs.TrailLemmas.{quiet_waits, all_trail, left_prefix}
 use Rattle.tt_engine.proofs.journal.force.Goals as goal
 
@@ -22,3 +23,9 @@ returns-in-Err-clause-fails g c told s h q =
     let none = quiet_waits c.args.log.now _ _ s (c.requires.open told) h q in
     let some = c.in-Err.ensures.fails in
     omega (arith, none, some)
+
+pub returns-in-Ok-clause-others : goal.returns-in-Ok-clause-others
+returns-in-Ok-clause-others g c told = one_changes c.args.log.now.number _ _ _ _ (c.force.ensures.others told)
+
+pub returns-in-Err-clause-others : goal.returns-in-Err-clause-others
+returns-in-Err-clause-others g c told = one_changes c.args.log.now.number _ _ _ _ (c.force.ensures.others told)

@@ -1,6 +1,6 @@
-use Rattle.std.proofs.Common.{subst, arith}
+use Rattle.std.proofs.Common.{◌∙◌, subst, arith}
 use Rattle.tt_disk.specs.declared.volume.Name.TheVariants.{Log as LogFile}
-use Rattle.tt_disk.specs.Laws.{keeps_then_keeps}
+use Rattle.tt_disk.specs.Laws.{count_stays, keeps_then_keeps}
 use Rattle.tt_log.specs.Takes.{TakesUpTo, TakesOn, at_first}
 use Rattle.tt_log.proofs.Reaching.{gone_on, gone_ends}
 use Rattle.tt_log.proofs.Taking.{up_to_more, up_to_end, went_on, went_to_end}
@@ -20,7 +20,7 @@ batches-preserved g c =
       some = omega (arith, within.0);
       inside = within.1;
       room = within.2;
-      later = omega (arith, c.batches.invariant.later, c.go_on.ensures.cause.later);
+      stays = count_stays _ _ _ _ c.in-Ok-On.ensures.cause ∙ c.batches.invariant.stays;
       keeps = λ told. keeps_then_keeps _ _ _ _ _ _ (c.batches.invariant.keeps told) (c.go_on.ensures.keeps told);
       reached = λ told. gone_on c.args.wanted c.args.number _ _ c.go_on.result c.in-Ok-On.field-0 c.in-Ok-On.next (c.go_on.ensures.exact told) c.in-Ok-On.is c.in-Ok-On.field-0-is ((c.batches.invariant.keeps told).reads (LogFile c.args.number));
       given = λ told.

@@ -1,4 +1,4 @@
-use Rattle.std.proofs.Common.{◌≤◌, ◌<◌, ◌-◌, ◌^◌}
+use Rattle.std.proofs.Common.{◌≡◌, ◌≤◌, ◌<◌, ◌-◌, ◌^◌}
 use Rattle.tt_disk.specs.declared.volume.Name.TheVariants.{Log as LogFile}
 use Rattle.tt_disk.specs.Volume.{Keeps}
 use Rattle.tt_log.specs.Walk.{file_most}
@@ -14,7 +14,7 @@ invariant-batches g l = record {
   some : 0 < l.at.gate;
   inside : l.at.gate < 2 ^ 62;
   room : l.at.offset ≤ file_most;
-  later : g.V.Volume.faults l.initial.volume ≤ g.V.Volume.faults l.volume;
+  stays : g.V.Volume.faults l.volume ≡ g.V.Volume.faults l.initial.volume;
   keeps : g.V.Volume.told → Keeps (g.V.Volume.now l.initial.volume) (g.V.Volume.now l.volume) (g.V.Volume.may l.initial.volume) (g.V.Volume.may l.volume);
   reached : g.V.Volume.told → IsReached l.wanted l.number (g.V.Volume.now l.initial.volume (LogFile l.number)) l.at;
   given : g.V.Volume.told → TakesUpTo l.number (g.T.Taker.took l.initial.taker) (g.T.Taker.took l.taker) at_first l.at (g.V.Volume.now l.initial.volume (LogFile l.number));

@@ -9,7 +9,7 @@ decreases-logs g l = l.end - l.at
 abbrev pub invariant-logs : goal.invariant-logs
 invariant-logs g l = record {
   above : l.from ≤ l.at;
-  later : g.V.Volume.faults l.initial.volume ≤ g.V.Volume.faults l.volume;
+  stays : g.V.Volume.faults l.volume ≡ g.V.Volume.faults l.initial.volume;
   gone : g.V.Volume.told → (k : ℕ) → l.from ≤ k → k < l.at → g.V.Volume.now l.volume (LogFile k) ≡ None;
   ahead : g.V.Volume.told → (k : ℕ) → l.at ≤ k → g.V.Volume.now l.volume (LogFile k) ≡ g.V.Volume.now l.initial.volume (LogFile k);
   crash : g.V.Volume.told → (k : ℕ) (c : Option (List ℕ)) → g.V.Volume.may l.volume (LogFile k) c → g.V.Volume.may l.initial.volume (LogFile k) c ⊎ (c ≡ None);

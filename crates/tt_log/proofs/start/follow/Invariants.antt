@@ -1,4 +1,4 @@
-use Rattle.std.proofs.Common.{◌≤◌, ◌<◌, ◌-◌}
+use Rattle.std.proofs.Common.{◌≡◌, ◌≤◌, ◌<◌, ◌-◌}
 use Rattle.tt_disk.specs.declared.volume.Name.TheVariants.{Log as LogFile}
 use Rattle.tt_disk.specs.Volume.{Keeps}
 use Rattle.tt_log.specs.Walk.{file_read}
@@ -15,7 +15,7 @@ invariant-files g l = record {
   onward : l.number ≤ l.file;
   below : l.file < 1000000;
   range : IsInRange l.file l.end;
-  later : g.V.Volume.faults l.initial.volume ≤ g.V.Volume.faults l.volume;
+  stays : g.V.Volume.faults l.volume ≡ g.V.Volume.faults l.initial.volume;
   keeps : g.V.Volume.told → Keeps (g.V.Volume.now l.initial.volume) (g.V.Volume.now l.volume) (g.V.Volume.may l.initial.volume) (g.V.Volume.may l.volume);
   gone : g.V.Volume.told → GoneTo l.number l.file (g.V.Volume.now l.initial.volume);
   end : g.V.Volume.told → IsEnd (file_read l.file (g.V.Volume.now l.initial.volume (LogFile l.file))) l.end;

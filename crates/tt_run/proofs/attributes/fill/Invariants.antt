@@ -5,7 +5,7 @@ abbrev pub invariant-pieces : goal.invariant-pieces
 invariant-pieces g l = record {
   within : l.used ≤ length l.buffer;
   long : length l.buffer ≡ length l.initial.buffer;
-  faults : g.A.Source.faults l.initial.source ≤ g.A.Source.faults l.source;
+  stays : g.A.Source.faults l.source ≡ g.A.Source.faults l.initial.source;
   bytes : (text : List ℕ) → g.A.Source.left l.initial.source ≡ Some text → (rest : List ℕ) × (g.A.Source.left l.source ≡ Some rest) × (take l.used l.buffer ++ rest ≡ text);
 }
 

@@ -1,10 +1,9 @@
-use Rattle.std.proofs.Common.{◌≡◌, ◌≤◌, Some, List, ℕ}
+use Rattle.std.proofs.Common.{◌≡◌, Some, List, ℕ}
 use Rattle.tt_flow.specs.Reading.{bytes_to_come}
 use Rattle.tt_log.specs.Logs.{IsOpen}
 use Rattle.tt_model.specs.State.{State}
 use Rattle.tt_engine.specs.Engines.{Stands}
-use Rattle.tt_engine.specs.Prefixes.{IsSinceOpening}
-use Rattle.tt_run.specs.Loops.{HasMoved, IsRunning}
+use Rattle.tt_run.specs.Loops.{IsRunning}
 use Rattle.tt_run.proofs.top_call.do_lines.Given as goal
 
 abbrev pub decreases-lines : goal.decreases-lines
@@ -13,11 +12,10 @@ decreases-lines g l = bytes_to_come l.reader
 abbrev pub invariant-lines : goal.invariant-lines
 invariant-lines g l = record {
   ready : g.L.Volume.told → IsOpen l.engine.log (g.L.Volume.now l.logs) (g.L.Volume.may l.logs);
-  scripts : g.S.Source.faults l.initial.script ≤ g.S.Source.faults l.script;
-  sinks : g.K.Sink.faults l.initial.sink ≤ g.K.Sink.faults l.sink;
-  volumes : g.L.Volume.faults l.initial.logs ≤ g.L.Volume.faults l.logs;
-  running : g.L.Volume.told → (bytes : List ℕ) (start : State) → g.S.Source.left l.initial.script ≡ Some bytes → Stands l.fn.engine (g.L.Volume.now l.initial.logs) start → IsSinceOpening start
+  scripts : g.S.Source.faults l.script ≡ g.S.Source.faults l.initial.script;
+  sinks : g.K.Sink.faults l.sink ≡ g.K.Sink.faults l.initial.sink;
+  volumes : g.L.Volume.faults l.logs ≡ g.L.Volume.faults l.initial.logs;
+  running : g.L.Volume.told → (bytes : List ℕ) (start : State) → g.S.Source.left l.initial.script ≡ Some bytes → Stands l.fn.engine (g.L.Volume.now l.initial.logs) start
       → (s : State) × (left : List ℕ) × (g.S.Source.left l.script ≡ Some left)
-      × IsRunning bytes left start (g.K.Sink.given l.initial.sink) (g.K.Sink.given l.sink) l.reader s × IsSinceOpening s
-      × HasMoved start s l.fn.engine l.engine (g.L.Volume.now l.initial.logs) (g.L.Volume.now l.logs) (g.L.Volume.may l.initial.logs) (g.L.Volume.may l.logs);
+      × IsRunning g.L.Volume.now g.L.Volume.may l.fn.engine (record { state = start; logs = l.initial.logs }) bytes left (g.K.Sink.given l.initial.sink) (g.K.Sink.given l.sink) l.reader l.engine (record { state = s; logs = l.logs });
 }

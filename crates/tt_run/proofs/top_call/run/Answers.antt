@@ -1,5 +1,6 @@
 use Rattle.std.proofs.Common.{◌≡◌, ◌⊎◌, ◌∙◌, inl, refl, sym, subst, Ok, Err, Result}
 use Rattle.tt_engine.specs.Prefixes.{LogsAreSettled}
+use Rattle.tt_engine.specs.LogTrail.{ChangesFrom}
 use Rattle.tt_engine.specs.Starts.{begun_over}
 use Rattle.tt_run.specs.Runs.{IsRun}
 use Rattle.tt_model.specs.Found.{Found}
@@ -59,17 +60,17 @@ pub returns-in-Run-clause-ran : goal.returns-in-Run-clause-ran
 returns-in-Run-clause-ran g c = λ bytes text settings found known form script told says is.
     let same = same_settings settings c.in-Ok.settings (c.in-Ok.ensures.only text (Ok settings) told says) in
     let settled : Type 0 = LogsAreSettled (g.L.Volume.now c.args.logs.now) (g.L.Volume.may c.args.logs.now) in
-    subst (λ (s : Settings). EndedEarly c.run_script.result s found ((c.run_script.new.script ≡ c.args.script.now) × (c.run_script.new.sink ≡ c.args.sink.now)) settled (g.L.Volume.now c.args.logs.now) (g.L.Volume.may c.run_script.new.logs)
-    ⊎ IsRun bytes (g.S.Source.left c.run_script.new.script) (begun_over s (g.L.Volume.now c.args.logs.now) found) (g.K.Sink.given c.args.sink.now) (g.K.Sink.given c.run_script.new.sink) c.run_script.result
-    settled (g.L.Volume.now c.args.logs.now) (g.L.Volume.now c.run_script.new.logs) (g.L.Volume.may c.args.logs.now) (g.L.Volume.may c.run_script.new.logs)) (sym same) (c.run_script.ensures.ran bytes found known script is)
+    subst (λ (s : Settings). EndedEarly c.run_script.result s found ((c.run_script.new.script ≡ c.args.script.now) × (c.run_script.new.sink ≡ c.args.sink.now) × ChangesFrom found.end.file (g.L.Volume.now c.args.logs.now) (g.L.Volume.now c.run_script.new.logs) (g.L.Volume.may c.args.logs.now) (g.L.Volume.may c.run_script.new.logs)) settled (g.L.Volume.now c.args.logs.now) (g.L.Volume.may c.run_script.new.logs)
+    ⊎ IsRun g.L.Volume.now g.L.Volume.may settled bytes (g.S.Source.left c.run_script.new.script) (begun_over s (g.L.Volume.now c.args.logs.now) found) (g.K.Sink.given c.args.sink.now) (g.K.Sink.given c.run_script.new.sink) c.run_script.result c.args.logs.now c.run_script.new.logs)
+    (sym same) (c.run_script.ensures.ran bytes found known script is)
 
 pub returns-in-Run-clause-complete_run : goal.returns-in-Run-clause-complete_run
 returns-in-Run-clause-complete_run g c = λ bytes text settings found known form script told says is place short no_script no_attributes no_sink no_logs.
     let same = same_settings settings c.in-Ok.settings (c.in-Ok.ensures.only text (Ok settings) told says) in
     let settled : Type 0 = LogsAreSettled (g.L.Volume.now c.args.logs.now) (g.L.Volume.may c.args.logs.now) in
-    let untouched : Type 0 = (c.run_script.new.script ≡ c.args.script.now) × (c.run_script.new.sink ≡ c.args.sink.now) in
-    completes bytes (g.S.Source.left c.run_script.new.script) c.in-Ok.settings found (begun_over c.in-Ok.settings (g.L.Volume.now c.args.logs.now) found) (g.K.Sink.given c.args.sink.now) (g.K.Sink.given c.run_script.new.sink) c.run_script.result settled untouched
-    (g.L.Volume.now c.args.logs.now) (g.L.Volume.now c.run_script.new.logs) (g.L.Volume.may c.args.logs.now) (g.L.Volume.may c.run_script.new.logs) _ ⊥ _ _ ⊥ ⊥ (c.run_script.ensures.ran bytes found known script is)
+    let untouched : Type 0 = (c.run_script.new.script ≡ c.args.script.now) × (c.run_script.new.sink ≡ c.args.sink.now) × ChangesFrom found.end.file (g.L.Volume.now c.args.logs.now) (g.L.Volume.now c.run_script.new.logs) (g.L.Volume.may c.args.logs.now) (g.L.Volume.may c.run_script.new.logs) in
+    completes g.L.Volume.now g.L.Volume.may bytes (g.S.Source.left c.run_script.new.script) c.in-Ok.settings found (begun_over c.in-Ok.settings (g.L.Volume.now c.args.logs.now) found) (g.K.Sink.given c.args.sink.now) (g.K.Sink.given c.run_script.new.sink) c.run_script.result settled untouched
+    c.args.logs.now c.run_script.new.logs _ ⊥ _ _ ⊥ ⊥ (c.run_script.ensures.ran bytes found known script is)
     (subst (λ (r : Result Found OpenRefusal). IsOpened c.in-Ok.settings r c.run_script.result) is (c.run_script.ensures.opened known)) (script_run_cause c.run_script.result _ _ _ c.run_script.ensures.statuses)
     (subst (λ (s : Settings). IsSome (mark_place s found)) same place) short no_script (λ none. none) no_sink no_logs
 

@@ -1,4 +1,5 @@
-use Rattle.std.proofs.Common.{◌≡◌, None, inl, inr, refl, subst}
+use Rattle.std.proofs.Common.{◌≡◌, None, inl, inr, refl, subst, sym}
+use Rattle.tt_engine.specs.LogTrail.{ChangesFrom}
 use Rattle.tt_model.specs.Found.{Found}
 use Rattle.tt_engine.specs.OpeningLaws.{database_opens, settled_reads}
 use Rattle.tt_log.specs.Logs.{LeavesForced}
@@ -7,25 +8,25 @@ use Rattle.tt_engine.specs.Starts.{IsRefusedSo, begun_over}
 use Rattle.tt_engine.specs.declared.refusal.OpenRefusal.{OpenRefusal}
 use Rattle.tt_run.specs.Openings.{mark_place}
 use Rattle.tt_run.specs.Runs.{IsRun}
-use Rattle.tt_run.proofs.OpenLemmas.{found_not_refused, opened_lines, opened_out, refused_log, run_over, same_found}
+use Rattle.tt_run.proofs.OpenLemmas.{begun_found, found_not_refused, opened_lines, opened_out, refused_log, run_over, same_found}
 use Rattle.tt_run.proofs.top_call.run_script.Goals as goal
 
 pub returns-in-Ok-clause-ran : goal.returns-in-Ok-clause-ran
 returns-in-Ok-clause-ran g c = λ bytes found told is_script is.
     let started = c.in-Ok.ensures.started told in
-    let opens = database_opens (g.L.Volume.now c.args.logs.now) found is in
-    let start = begun_over c.args.settings.now (g.L.Volume.now c.args.logs.now) started.found in
-    let since = c.start.ensures.since started.found in
-    let run = c.do_lines.ensures.ran told bytes start is_script started.stands since in
-    inr (subst (λ (f : Found). IsRun bytes (g.S.Source.left c.do_lines.new.script) (begun_over c.args.settings.now (g.L.Volume.now c.args.logs.now) f) (g.K.Sink.given c.args.sink.now) (g.K.Sink.given c.do_lines.new.sink) c.do_lines.result
-    (LogsAreSettled (g.L.Volume.now c.args.logs.now) (g.L.Volume.may c.args.logs.now)) (g.L.Volume.now c.args.logs.now) (g.L.Volume.now c.do_lines.new.logs) (g.L.Volume.may c.args.logs.now) (g.L.Volume.may c.do_lines.new.logs)) (same_found (g.L.Volume.now c.args.logs.now) started.found found started.is is)
-    (run_over bytes (g.S.Source.left c.do_lines.new.script) start (g.K.Sink.given c.args.sink.now) (g.K.Sink.given c.do_lines.new.sink) c.do_lines.result (LeavesForced c.in-Ok.engine.log (g.L.Volume.now c.start.new.logs) (g.L.Volume.may c.start.new.logs)) (LogsAreSettled (g.L.Volume.now c.args.logs.now) (g.L.Volume.may c.args.logs.now))
-    (g.L.Volume.now c.args.logs.now) (g.L.Volume.now c.start.new.logs) (g.L.Volume.now c.do_lines.new.logs) (g.L.Volume.may c.args.logs.now) (g.L.Volume.may c.start.new.logs) (g.L.Volume.may c.do_lines.new.logs)
-    since (λ settled. c.in-Ok.ensures.kept told (settled_reads (g.L.Volume.now c.args.logs.now) (g.L.Volume.may c.args.logs.now) settled)) (λ still. c.in-Ok.ensures.still told started.found started.is still) run))
+    let now_old = g.L.Volume.now c.args.logs.now in
+    let may_old = g.L.Volume.may c.args.logs.now in
+    let start = begun_over c.args.settings.now now_old started.found in
+    let run = c.do_lines.ensures.ran told bytes start is_script started.stands in
+    inr (subst (λ (f : Found). IsRun g.L.Volume.now g.L.Volume.may (LogsAreSettled now_old may_old) bytes (g.S.Source.left c.do_lines.new.script) (begun_over c.args.settings.now now_old f) (g.K.Sink.given c.args.sink.now) (g.K.Sink.given c.do_lines.new.sink) c.do_lines.result c.args.logs.now c.do_lines.new.logs)
+    (same_found now_old started.found found started.is is)
+    (run_over g.L.Volume.now g.L.Volume.may (LeavesForced c.in-Ok.engine.log (g.L.Volume.now c.start.new.logs) (g.L.Volume.may c.start.new.logs)) (LogsAreSettled now_old may_old) bytes (g.S.Source.left c.do_lines.new.script) start (g.K.Sink.given c.args.sink.now) (g.K.Sink.given c.do_lines.new.sink) c.do_lines.result
+    c.args.logs.now c.start.new.logs c.do_lines.new.logs (c.start.ensures.since started.found) (λ settled. c.in-Ok.ensures.kept told (settled_reads now_old may_old settled)) (λ still. c.in-Ok.ensures.still told started.found started.is still)
+    (subst (λ (f : Found). ChangesFrom f.end.file now_old (g.L.Volume.now c.start.new.logs) may_old (g.L.Volume.may c.start.new.logs)) (sym (begun_found c.args.settings.now now_old started.found)) (c.start.ensures.others told started.found started.is)) run))
 
 pub returns-in-Err-Failed-clause-ran : goal.returns-in-Err-Failed-clause-ran
 returns-in-Err-Failed-clause-ran g c = λ bytes found told is_script is.
-    inl ((refl, refl), λ settled. c.start.ensures.crash told (settled_reads (g.L.Volume.now c.args.logs.now) (g.L.Volume.may c.args.logs.now) settled) found (database_opens (g.L.Volume.now c.args.logs.now) found is))
+    inl ((refl, refl, c.start.ensures.others told found (database_opens (g.L.Volume.now c.args.logs.now) found is)), λ settled. c.start.ensures.crash told (settled_reads (g.L.Volume.now c.args.logs.now) (g.L.Volume.may c.args.logs.now) settled) found (database_opens (g.L.Volume.now c.args.logs.now) found is))
 
 pub returns-in-Ok-clause-opened : goal.returns-in-Ok-clause-opened
 returns-in-Ok-clause-opened g c = λ told.

@@ -2,6 +2,7 @@ use Rattle.std.proofs.Common.{◌≡◌, ◌∙◌, ap, sym, subst, Ok}
 use Rattle.std.specs.Prelude.{OnOk}
 use Rattle.tt_disk.specs.Volume.{Keeps}
 use Rattle.tt_disk.specs.declared.volume.Name.TheVariants.{Log as LogFile}
+use Rattle.tt_engine.specs.FileLaws.{keeps_changes}
 use Rattle.tt_engine.specs.Prefixes.{IsStill}
 use Rattle.tt_disk.specs.Laws.{keeps_then_keeps}
 use Rattle.tt_engine.proofs.OnwardLemmas.{begun_since}
@@ -71,3 +72,9 @@ returns-in-Ok-None-clause-since g c found = begun_since c.laws.ensures.forced c.
 
 pub returns-in-Err-clause-since : goal.returns-in-Err-clause-since
 returns-in-Err-clause-since g c found = begun_since c.laws.ensures.forced c.args.settings.now (g.L.Volume.now c.args.logs.now) found
+
+pub returns-in-Ok-Some-clause-others : goal.returns-in-Ok-Some-clause-others
+returns-in-Ok-Some-clause-others g c told found is =
+    let same : g.L.Volume.now c.size.new.self ≡ g.L.Volume.now c.args.logs.now = λ i n. (c.size.ensures.keeps told).reads n i in
+    keeps_changes found.end.file (g.L.Volume.now c.args.logs.now) (g.L.Volume.now c.size.new.self) (g.L.Volume.now c.open.new.logs) (g.L.Volume.may c.args.logs.now) (g.L.Volume.may c.size.new.self) (g.L.Volume.may c.open.new.logs) (c.size.ensures.keeps told)
+    (c.open.ensures.others told found (ap opening same ∙ is))

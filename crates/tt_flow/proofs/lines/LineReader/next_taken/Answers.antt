@@ -1,4 +1,4 @@
-use Rattle.std.proofs.Common.{subst, ap, Ok, arith}
+use Rattle.std.proofs.Common.{◌∙◌, subst, ap, Ok, arith}
 use Rattle.tt_flow.specs.Pieces.{ReadsPiece}
 use Rattle.tt_flow.proofs.Taken.{Reads-err}
 use Rattle.tt_flow.proofs.lines.LineReader.next_taken.Goals as goal
@@ -26,5 +26,5 @@ pieces-preserved g c =
           (c.in_ok-answer.ensures.read script told.0 given told.1 told.2)
           );
       bound = omega (arith, c.in_ok-answer.ensures.bound, c.pieces.invariant.bound);
-      later = omega (arith, c.next_piece.ensures.cause.later, c.pieces.invariant.later);
+      stays = c.in_ok-answer.ensures.cause.stays ∙ c.pieces.invariant.stays;
     }

@@ -8,7 +8,7 @@ invariant-pieces g l = record {
   given : (script left : List ℕ) (given : List (Option (List ℕ))) → g.S.Source.left l.initial.source ≡ Some left → HasGiven script given l.initial.self left
       → HasGivenTold script given l.self (g.S.Source.left l.source);
   bound : bytes_to_come l.self ≤ bytes_to_come l.initial.self;
-  later : g.S.Source.faults l.initial.source ≤ g.S.Source.faults l.source;
+  stays : g.S.Source.faults l.source ≡ g.S.Source.faults l.initial.source;
 }
 
 abbrev pub decreases-pieces : goal.decreases-pieces

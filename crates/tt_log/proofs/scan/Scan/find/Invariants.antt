@@ -10,7 +10,7 @@ decreases-entries g l = most_left l.self
 abbrev pub invariant-entries : goal.invariant-entries
 invariant-entries g l = record {
   below : l.self.file < 1000000;
-  later : g.V.Volume.faults l.initial.volume ≤ g.V.Volume.faults l.volume;
+  stays : g.V.Volume.faults l.volume ≡ g.V.Volume.faults l.initial.volume;
   fewer : most_left l.self ≤ most_left l.initial.self;
   from : l.self.from ≡ l.initial.self.from;
   keeps : g.V.Volume.told → Keeps (g.V.Volume.now l.initial.volume) (g.V.Volume.now l.volume) (g.V.Volume.may l.initial.volume) (g.V.Volume.may l.volume);

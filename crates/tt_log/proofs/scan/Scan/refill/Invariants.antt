@@ -10,7 +10,7 @@ abbrev pub invariant-files : goal.invariant-files
 invariant-files g l = record {
   below : l.self.file < 1000000;
   none : l.self.at ≡ length l.self.body.items;
-  later : g.V.Volume.faults l.initial.volume ≤ g.V.Volume.faults l.volume;
+  stays : g.V.Volume.faults l.volume ≡ g.V.Volume.faults l.initial.volume;
   from : l.self.from ≡ l.initial.self.from;
   fewer : most_left l.self ≤ most_left l.initial.self;
   keeps : g.V.Volume.told → Keeps (g.V.Volume.now l.initial.volume) (g.V.Volume.now l.volume) (g.V.Volume.may l.initial.volume) (g.V.Volume.may l.volume);
