@@ -1,12 +1,12 @@
 -- The log as the trail of a state: what its files and its buffer have, and what a crash leaves of it.
-use Rattle.std.specs.Prelude.{◌≡◌, ◌⊎◌, ◌≤◌, ◌+◌, ℕ, nat_lt, Bool, true, List, length, is_some, Option, Ok}
+use Rattle.std.specs.Prelude.{◌≡◌, ◌⊎◌, ◌≤◌, ◌+◌, ◌^◌, ℕ, List, length, is_some, Option, Ok}
 use Rattle.tt_disk.specs.declared.volume.Name.{Name}
 use Rattle.tt_disk.specs.declared.volume.Name.TheVariants.{Log as LogFile}
 use Rattle.tt_value.specs.declared.position.Position.{Position}
 use Rattle.tt_record.specs.Places.{position}
 use Rattle.tt_log.specs.declared.log.Log.{Log}
 use Rattle.tt_log.specs.Walk.{Files, Found, log_of}
-use Rattle.tt_log.specs.Logs.{MayLeave, trail_of, forced_of, write_of}
+use Rattle.tt_log.specs.Logs.{MayLeave, OnlyBetween, trail_of, forced_of, write_of}
 use Rattle.tt_model.specs.Trail.{oldest, trail_end}
 use Rattle.tt_model.specs.State.{State, trail, new_among, write_position, force_position}
 use Rattle.tt_recover.specs.Opening.{newest_first}
@@ -48,12 +48,6 @@ pub record IsQuiet (s after : State) : Type 0 where
   pub forced : after.forced ≡ s.forced
   pub file : (write_position after).file ≡ (write_position s).file
 
--- a name that is not that of a log file with this number or a greater one
-abbrev pub is_before : ℕ → Name → Bool
-is_before n (LogFile k) = nat_lt k n
-is_before n _ = true
-
 -- No file has changed but log files from this number on, and a crash leaves of the others only what it could leave before.
-pub record ChangesFrom (n : ℕ) (old new : Files) (may_old may_new : Name → Option (List ℕ) → Type 0) : Type 0 where
-  pub reads : (name : Name) → is_before n name ≡ true → new name ≡ old name
-  pub crash : (name : Name) → is_before n name ≡ true → (c : Option (List ℕ)) → may_new name c → may_old name c
+abbrev pub ChangesFrom : ℕ → Files → Files → (Name → Option (List ℕ) → Type 0) → (Name → Option (List ℕ) → Type 0) → Type 0
+ChangesFrom n old new may_old may_new = OnlyBetween n (2 ^ 32) old new may_old may_new

@@ -38,7 +38,7 @@ returns-in-Err-clause-fails g c told s h q =
     true≢false (sym c.in-Err.ensures.fails ∙ quiet_stays c.args.log.now _ _ s c.args.entry.now (c.requires.open told) h c.requires.entry q)
 
 pub returns-in-Ok-clause-others : goal.returns-in-Ok-clause-others
-returns-in-Ok-clause-others g c told = two_change c.args.log.now.number _ _ _ _ (c.append.ensures.others told)
+returns-in-Ok-clause-others g c told = two_change c.args.log.now.number _ _ _ _ c.args.log.now.numbers (c.append.ensures.others told)
 
 pub returns-in-Err-clause-others : goal.returns-in-Err-clause-others
-returns-in-Err-clause-others g c told = two_change c.args.log.now.number _ _ _ _ (c.append.ensures.others told)
+returns-in-Err-clause-others g c told = two_change c.args.log.now.number _ _ _ _ c.args.log.now.numbers (c.append.ensures.others told)

@@ -25,7 +25,7 @@ returns-in-Err-clause-fails g c told s h q =
     omega (arith, none, some)
 
 pub returns-in-Ok-clause-others : goal.returns-in-Ok-clause-others
-returns-in-Ok-clause-others g c told = one_changes c.args.log.now.number _ _ _ _ (c.force.ensures.others told)
+returns-in-Ok-clause-others g c told = one_changes c.args.log.now.number _ _ _ _ c.args.log.now.numbers (c.force.ensures.others told)
 
 pub returns-in-Err-clause-others : goal.returns-in-Err-clause-others
-returns-in-Err-clause-others g c told = one_changes c.args.log.now.number _ _ _ _ (c.force.ensures.others told)
+returns-in-Err-clause-others g c told = one_changes c.args.log.now.number _ _ _ _ c.args.log.now.numbers (c.force.ensures.others told)
