@@ -141,14 +141,12 @@ asked_next script given seen line request reader left same not_skipped asks read
 
 -- ---- the log files
 
-pub keeps_same : (now : Files) (may : Outcomes) → Keeps now now may may
-keeps_same now may = record { reads = λ n. refl; crash = λ n c left. left }
+-- The lemmas named `under` carry what holds under the premise P to a premise Q that implies it.
 
--- the log files have what is forced, where a weaker word on the start is enough for the one that is known
-pub forced_under : {V : Type 0} (now : V → Files) (may : V → Outcomes) (P Q : Type 0) (moment : Moment V) → (Q → P) → HasForced now may P moment → HasForced now may Q moment
+forced_under : {V : Type 0} (now : V → Files) (may : V → Outcomes) (P Q : Type 0) (moment : Moment V) → (Q → P) → HasForced now may P moment → HasForced now may Q moment
 forced_under now may P Q moment settled holds = record { files = holds.files; opens = holds.opens; settled_again = λ q. holds.settled_again (settled q) }
 
-pub onward_twice : (s mid after : State) → IsOnward s mid → IsOnward mid after → IsOnward s after
+onward_twice : (s mid after : State) → IsOnward s mid → IsOnward mid after → IsOnward s after
 onward_twice s mid after one two =
     let forced = one.forced in
     let file = one.file in

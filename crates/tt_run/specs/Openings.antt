@@ -114,7 +114,7 @@ pub record HasNoPlace (attributes : Option (List ℕ)) (files : Files) : Type 0 
   pub none : mark_place settings found ≡ None
 
 -- A run over what was found ended before its first line: in the attributes, for want of memory, since the Mark has no place, or in
--- the log files. There this is untouched, and a crash leaves what was found, and perhaps the Mark.
+-- the log files. In the last case this is untouched, and a crash leaves what was found, and perhaps the Mark.
 abbrev pub EndedEarly : Status → Settings → Found → Type 0 → Type 0 → Files → (Name → Option (List ℕ) → Type 0) → Type 0
 EndedEarly AttributesFault settings found untouched settled now may = Unit {0}
 EndedEarly NoMemory settings found untouched settled now may = Unit {0}
