@@ -36,8 +36,8 @@ pub trait Volume {
     /// What a crash at this moment may leave of each file.
     ghost may: { Self → Name → Option (List ℕ) → Type 0 };
 
-    /// How often a call of the volume has failed. The count rises where a call fails, up to the greatest `u64`, and
-    /// stays where one is answered.
+    /// The count of failures. It rises where a call of the volume fails, by one or more and up to the greatest `u64`,
+    /// and stays where one is answered.
     ghost faults: { Self → ℕ };
 
     /// How long a file is, at most 2^62, or `None` where it isn't there. A longer file is `Failed`. No file changes.

@@ -12,7 +12,8 @@ pub trait Source {
     /// What is left, where the source tells it.
     ghost left: { Self → Option (List ℕ) };
 
-    /// How often a call of the source has failed; one that is answered leaves the count.
+    /// The count of failures. It rises where a call of the source fails, as that of a volume does, and stays where one is
+    /// answered.
     ghost faults: { Self → ℕ };
 
     /// Fills the buffer's front, and answers how many bytes it gave. At a buffer that isn't empty, 0 comes at the end of input
@@ -28,7 +29,8 @@ pub trait Sink {
     /// What was appended, where the sink tells it.
     ghost given: { Self → Option (List ℕ) };
 
-    /// How often a call of the sink has failed; one that is answered leaves the count.
+    /// The count of failures. It rises where a call of the sink fails, as that of a volume does, and stays where one is
+    /// answered.
     ghost faults: { Self → ℕ };
 
     /// Appends the piece. A call that fails has appended a prefix of it.

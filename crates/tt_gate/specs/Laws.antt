@@ -15,7 +15,7 @@ use Rattle.tt_gate.specs.declared.gate.GateRefusal.TheVariants.{BadHeader, BadBa
 use Rattle.tt_gate.specs.Answers.{gate_of, gate_in}
 use Rattle.tt_gate.specs.Gate.{length_at, end_of, behind_body, walked, with_header, gated, bodies_from, whole_bodies}
 use Rattle.tt_gate.specs.Steps.{bodies_at, walked_at}
-use Rattle.tt_gate.specs.Standing.{bodies_of, with_batch, staged_in, IsReady, LeavesThese, LeavesFormer, LeavesOneMore, LeavesFormerOrMore, HasHeader}
+use Rattle.tt_gate.specs.Standing.{bodies_of, with_batch, staged_in, IsLaid, IsReady, IsSynced, LeavesThese, LeavesFormer, LeavesOneMore, LeavesFormerOrMore, HasHeader}
 
 abbrev Outcomes : Type 1
 Outcomes = Option (List ℕ) → Type 0
@@ -43,6 +43,14 @@ ready_kept file a b may_a may_b keeps = ready_same file a b may_a may_b (keeps.r
 pub ready_elsewhere : (file : GateFile) (other : Name) (a b : Name → Option (List ℕ)) (may_a may_b : Name → Option (List ℕ) → Type 0)
     → OnlyAt other a b may_a may_b → ¬ (file.name ≡ other) → IsReady file a may_a → IsReady file b may_b
 ready_elsewhere file other a b may_a may_b only differs = ready_same file a b may_a may_b (only.reads file.name differs) (only.crash file.name differs)
+
+-- A file that wasn't synced since it was found is ready, whatever a crash leaves.
+pub ready_unsynced : (file : GateFile) (now : Name → Option (List ℕ)) (may : Name → Option (List ℕ) → Type 0) → IsLaid file now → file.staged ≡ 0 → ¬ IsSynced file → IsReady file now may
+ready_unsynced file now may laid none unsynced = record {
+  laid = laid;
+  kept = λ synced. absurd (unsynced synced);
+  begun = λ some. absurd (omega (arith, none, some));
+}
 
 -- nothing is staged
 pub none_staged : (file : GateFile) (bytes : Option (List ℕ)) → file.staged ≡ 0 → staged_in file bytes ≡ []

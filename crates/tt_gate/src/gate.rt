@@ -1,5 +1,5 @@
 // A file of a header and batches behind gate bytes.
-ghost use Rattle.std.specs.Prelude.{◌≡◌, ◌⊎◌, ◌+◌, ◌-◌, ◌^◌, ◌<◌, ◌≤◌, Option, List, [], ◌∷◌, ◌++◌, ℕ, length, OnOk, OnErr, IfOk, Ok, Err, Some, IsErrOf, IfErr};
+ghost use Rattle.std.specs.Prelude.{◌≡◌, ◌⊎◌, ◌+◌, ◌-◌, ◌^◌, ◌<◌, ◌≤◌, Option, List, [], ◌∷◌, ◌++◌, ℕ, length, OnOk, OnErr, IfOk, Ok, Some, IsErrOf, IfErr};
 ghost use Rattle.tt_disk.specs.Causes.{HasCause, RoseWhere};
 ghost use Rattle.tt_disk.specs.Volume.{Keeps, IsSettled};
 ghost use Rattle.tt_disk.specs.Laws.{OnlyAt};
@@ -53,10 +53,11 @@ pub enum Gate {
 /// `finish` opens the gate once all of it is synced. So a crash leaves each batch whole or not at
 /// all.
 ///
-/// The volume that the calls are given must be the one that the file was made or found in, and no
-/// other call may have changed the file since. Where a call fails, the value still stands for the
-/// same gate, but the file may have the new batch or a part of one: it has to be found again before
-/// more is added to it. No call takes memory.
+/// The volume that the calls are given must be the one that the file was made or found in, or in
+/// which its closed gate lies where `at_end` was told, and no other call may have changed the file
+/// since. Where a call fails, the value still stands for the same gate, but the file may have the
+/// new batch or a part of one: it has to be found again before more is added to it. No call takes
+/// memory.
 #[derive(Debug, Drop)]
 pub struct GateFile {
     name: Name,
@@ -72,7 +73,7 @@ pub struct GateFile {
 
 impl GateFile {
     ghost use Rattle.std.specs.Prelude.{true};
-    ghost use Rattle.tt_gate.specs.Standing.{LeavesFormer, LeavesFormerOrMore, IsReady, IsSynced, LieAt, Stands, StandsSomehow, Leaves, IsSo, IsLaid, LeavesThese, LeavesAtMost, LeavesOneMore, StandsStill, staged_in, with_batch};
+    ghost use Rattle.tt_gate.specs.Standing.{LeavesFormer, LeavesFormerOrMore, IsEnd, IsReady, IsSynced, LieAt, Stands, StandsSomehow, Leaves, IsSo, IsLaid, LeavesThese, LeavesAtMost, LeavesOneMore, StandsStill, staged_in, with_batch};
 
     /// Makes the file, with this header and no batch, and syncs it. A file of this name that is
     /// there is emptied first.
@@ -135,12 +136,26 @@ impl GateFile {
     {
         check_header(volume, name, header)?;
         let gate = last_gate(volume, name)?;
-        Ok(GateFile {
+        Ok(GateFile::at_end(name, gate))
+    }
+
+    /// The end of the batches of a file whose closed gate is known to lie at this offset, in bytes,
+    /// at most 2^62. Going from gate to gate with `gate_at`, from offset 16 on, finds it where the
+    /// answer is `Closed`. It isn't looked at: no call of a volume is made. Of what the file has
+    /// nothing needs to be on the disk yet: the first `stage` syncs it.
+    pub fn at_end(name: Name, gate: u64) -> GateFile
+        requires range { gate ≤ 2 ^ 62 }
+        // Where it lies there, the file is whole, and stands as the value says.
+        ensures laid { (now : Name → Option (List ℕ)) → IsEnd (now name) gate → IsLaid result now }
+        ensures fresh { (result.name ≡ name) × (result.staged ≡ 0) }
+        ensures unsynced { ¬ IsSynced result }
+    {
+        GateFile {
             name,
             gate,
             staged: 0,
             settled: false,
-        })
+        }
     }
 
     // Writes eight zero bytes behind the gate, where nothing is staged: the length's place, so that

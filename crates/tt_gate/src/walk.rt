@@ -1,5 +1,5 @@
 // The walk from gate to gate.
-ghost use Rattle.std.specs.Prelude.{◌≡◌, ◌⊎◌, ◌+◌, ◌-◌, ◌^◌, ◌<◌, ◌≤◌, List, ℕ, length, IfOk, IfErr, OnOk, IsErrOf, Ok, Err};
+ghost use Rattle.std.specs.Prelude.{◌≡◌, ◌⊎◌, ◌+◌, ◌-◌, ◌^◌, ◌<◌, length, IfOk, IfErr, OnOk, IsErrOf, Ok, Err};
 ghost use Rattle.tt_disk.specs.Causes.{RoseWhere};
 ghost use Rattle.tt_disk.specs.Volume.{Keeps, size_of};
 ghost use Rattle.tt_gate.specs.Gate.{gated};
@@ -10,8 +10,8 @@ use crate::{Gate, GateRefusal};
 use tt_disk::{Name, Volume};
 
 // What a gate's byte and the eight behind it say, where so many bytes are left from the gate on.
-// The next gate lies in the file too. Of the eight, those past the file's end are zero here, and
-// then too few bytes are left anyway.
+// The next gate lies in the file too. Of the eight, those past the file's end may be any: then too
+// few bytes are left anyway.
 fn judge(at: u64, left: u64, gate: u8, place: [u8; 8]) -> Result<Gate, GateRefusal>
     ensures { result ≡ judged at left gate place }
 {
@@ -43,11 +43,10 @@ pub fn gate_at<V: Volume>(volume: &mut V, name: Name, at: u64) -> Result<Gate, G
     if at >= size {
         return Err(GateRefusal::BadBatch { at });
     }
-    let mut gate = [0; 1];
-    let mut place = [0; 8];
-    let _ = volume.read_at(name, at, &mut gate)?;
-    let _ = volume.read_at(name, at + 1, &mut place)?;
-    judge(at, size - at, gate[0], place)
+    let mut bytes = [0; 9];
+    let _ = volume.read_at(name, at, &mut bytes)?;
+    let [gate, a, b, c, d, e, f, g, h] = bytes;
+    judge(at, size - at, gate, [a, b, c, d, e, f, g, h])
 }
 
 // Where the closed gate behind the last batch lies. Each batch is whole within the file, so the

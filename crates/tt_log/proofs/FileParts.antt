@@ -105,7 +105,7 @@ never n at offset (b ∷ bodies) e es is =
     let p = passed n at (at + 9 + length b) offset (entries_of b) (is_last bodies) (bodies_read n (at + 9 + length b) (offset_behind offset (entries_of b)) bodies (Err e)) es is in
     never n (at + 9 + length b) (offset_behind offset (entries_of b)) bodies e p.rest p.goes
 
-pub never_bad : (n at : ℕ) (header : List ℕ) (bodies : List (List ℕ)) (test : Bool) (es : List Entry) → ¬ ((if test then bodies_read n 16 0 bodies (Err (BadBatch n at)) else Err (Gap n)) ≡ Ok (es, false))
+never_bad : (n at : ℕ) (header : List ℕ) (bodies : List (List ℕ)) (test : Bool) (es : List Entry) → ¬ ((if test then bodies_read n 16 0 bodies (Err (BadBatch n at)) else Err (Gap n)) ≡ Ok (es, false))
 never_bad n at header bodies true es is = never n 16 0 bodies (BadBatch n at) es is
 never_bad n at header bodies false es is = cc
 

@@ -1,25 +1,19 @@
 -- The walk from one file to the next.
-use Rattle.std.proofs.Common.{◌≡◌, inl, inr, ◌<◌, ◌≤◌, ◌+◌, ◌-◌, ℕ, suc, List, [], ◌++◌, Bool, true, false, Option, Result, Ok, Err, refl, sym, ap, ◌∙◌, subst, arith, take}
+use Rattle.std.proofs.Common.{◌≡◌, inl, inr, ◌<◌, ◌≤◌, ◌+◌, ◌-◌, ℕ, suc, List, [], ◌++◌, Bool, true, false, Option, Result, Ok, Err, refl, sym, ap, ◌∙◌, subst, arith}
 use Rattle.tt_disk.specs.declared.volume.Name.TheVariants.{Log}
-use Rattle.tt_disk.specs.Volume.{bytes_of}
 use Rattle.tt_value.specs.declared.position.Position.{Position}
-use Rattle.tt_gate.specs.Gate.{whole_bodies}
-use Rattle.tt_gate.specs.Standing.{IsSo}
-use Rattle.tt_gate.specs.declared.gate.GateRefusal.{GateRefusal}
-use Rattle.tt_gate.specs.declared.gate.GateRefusal.TheVariants.{Absent, BadHeader, BadBatch as GateBad, Failed as GateFailed}
 use Rattle.tt_record.specs.declared.entry.Entry.{Entry}
 use Rattle.tt_record.specs.Places.{position}
 use Rattle.tt_log.specs.Lengths.{total}
 use Rattle.tt_log.specs.declared.file.FileEnd.{FileEnd}
+use Rattle.tt_log.specs.declared.start.LogEnd.{LogEnd}
 use Rattle.tt_log.specs.declared.refusal.LogRefusal.{LogRefusal}
 use Rattle.tt_log.specs.declared.refusal.LogRefusal.TheVariants.{Gap, BadBatch}
-use Rattle.tt_log.specs.Walk.{Files, Found, same_bytes, log_header, part_of, file_read, placed, in_front, on_part, walk, log_of}
+use Rattle.tt_log.specs.Walk.{Files, Found, file_read, placed, in_front, on_part, walk, log_of}
 use Rattle.tt_log.specs.Rests.{IsRefused}
 use Rattle.tt_log.specs.Starts.{has_place, where_place, started}
-use Rattle.tt_log.specs.Ends.{IsEnd, HasEnd, IsFileEnd, FoundEnd, IsFollowed, EndsIn}
-use Rattle.tt_log.proofs.FileParts.{never_bad}
-use Rattle.tt_log.proofs.Heads.{file_gap}
-use Rattle.tt_log.proofs.Walks.{in_front_twice, last_of}
+use Rattle.tt_log.specs.Ends.{IsEnd, HasEnd, IsFileEnd, FoundEnd, IsFollowed}
+use Rattle.tt_log.proofs.Walks.{in_front_twice}
 
 abbrev pub Standing : Type 0
 Standing = Result Found LogRefusal
@@ -98,14 +92,14 @@ place_not from at files first h is f = has_is from files first h ∙ ap (λ (b :
 pub found_by : (r other : Standing) (at : Position) → other ≡ r → FoundEnd r at → FoundEnd other at
 found_by r other at same f = record { found = f.found; is = same ∙ f.is; end = f.end }
 
-pub followed_ok : (r : Standing) (q : Result Position LogRefusal) (at : Position) → IsFollowed r q → q ≡ Ok at → FoundEnd r at
-followed_ok r q at says is = let P : Result Position LogRefusal → Type 0 = λ p. IsFollowed r p in subst P is says
+pub followed_ok : (r : Standing) (q : Result LogEnd LogRefusal) (end : LogEnd) → IsFollowed r q → q ≡ Ok end → FoundEnd r end.at
+followed_ok r q end says is = let P : Result LogEnd LogRefusal → Type 0 = λ p. IsFollowed r p in subst P is says
 
 start_refused_by : (from : Position) (files : Files) (e : LogRefusal) → log_of from.file files ≡ Err e → started from files ≡ Err e
 start_refused_by from files e is = ap (where_place from (has_place from.offset (file_read from.file (files (Log from.file))))) is
 
-pub start_refused : (from : Position) (files : Files) (q : Result Position LogRefusal) (e : LogRefusal) → IsFollowed (log_of from.file files) q → q ≡ Err e → IsFollowed (started from files) (Err e)
-start_refused from files q e says is = let P : Result Position LogRefusal → Type 0 = λ p. IsFollowed (log_of from.file files) p in by_cause (subst P is says)
+pub start_refused : (from : Position) (files : Files) (q : Result LogEnd LogRefusal) (e : LogRefusal) → IsFollowed (log_of from.file files) q → q ≡ Err e → IsFollowed (started from files) (Err e)
+start_refused from files q e says is = let P : Result LogEnd LogRefusal → Type 0 = λ p. IsFollowed (log_of from.file files) p in by_cause (subst P is says)
   where
     by_cause : IsFollowed (log_of from.file files) (Err e) → IsFollowed (started from files) (Err e)
     by_cause (inl failed) = inl failed
@@ -117,24 +111,3 @@ first_refused from files e below refused = start_refused from files (Err e) e (g
 
 pub start_past : (from : Position) (files : Files) → 1000000 ≤ from.file → IsFollowed (started from files) (Err (Gap from.file))
 start_past from files above = inr (inr (start_refused_by from files (Gap from.file) (log_past from.file files above)))
-
--- ---- the last file
-
-abbrev no_end : Result (List Entry × Bool) LogRefusal → List Entry → Type 0
-no_end part es = part ≡ Ok (es, false)
-
-pub so_failed : (n : ℕ) (file : Option (List ℕ)) (e : GateRefusal) (es : List Entry) → file_read n file ≡ Ok (es, false) → IsSo (log_header n) file e → e ≡ GateFailed
-unfolding file_read
-so_failed n file Absent es is so = absurd (let gap : file_read n file ≡ Err (Gap n) = ap (file_read n) so in let bad : no_end (Err (Gap n)) es = sym gap ∙ is in cc)
-so_failed n file BadHeader es is so = absurd (let gap : file_read n file ≡ Err (Gap n) = file_gap n file (λ h. so.1 h) in let bad : no_end (Err (Gap n)) es = sym gap ∙ is in cc)
-so_failed n file (GateBad at) es is so =
-    absurd (never_bad n at [] (whole_bodies file) (same_bytes (take 16 (bytes_of file)) (log_header n)) es (ap (part_of n file) (sym so.1) ∙ is))
-so_failed n file GateFailed es is so = refl
-
--- the file in which a walk ends is the last one
-pub last_ends : (first : ℕ) (files : Files) (at : Position) → FoundEnd (log_of first files) at → EndsIn (file_read at.file (files (Log at.file)))
-unfolding log_of
-last_ends first files at f =
-    let l = last_of (1000000 - first) first files f.found f.is in
-    let same : l.last ≡ at.file = sym (ap (λ (g : Found). g.end.file) l.is) ∙ ap (λ (p : Position). p.file) f.end in
-    record { es = l.es; is = subst (λ (k : ℕ). file_read k (files (Log k)) ≡ Ok (l.es, false)) same l.reads }

@@ -3,6 +3,10 @@ use Rattle.std.proofs.Common.{◌≡◌, inl, inr, ◌+◌, ◌==◌, ◌||◌, 
 use Rattle.std.proofs.lemmas.List.{append-nil}
 use Rattle.std.specs.Prelude.{Vec}
 use Rattle.std.specs.declared.alloc.Global.{Global}
+use Rattle.tt_gate.specs.declared.gate.Gate.TheVariants.{Full}
+use Rattle.tt_gate.specs.Answers.{gate_in}
+use Rattle.tt_gate.specs.Standing.{IsEnd as IsGateEnd}
+use Rattle.tt_gate.specs.Walk.{IsGate, first_gate, next_gate, last_gate}
 use Rattle.tt_record.specs.declared.entry.Entry.{Entry}
 use Rattle.tt_record.specs.Reading.{entries_of}
 use Rattle.tt_log.specs.Lengths.{total}
@@ -14,9 +18,9 @@ use Rattle.tt_log.specs.declared.file.Went.{Went}
 use Rattle.tt_log.specs.declared.file.Went.TheVariants.{On, Ends}
 use Rattle.tt_log.specs.declared.refusal.LogRefusal.{LogRefusal}
 use Rattle.tt_log.specs.Walk.{Part, before, file_read}
-use Rattle.tt_log.specs.Rests.{rest_read, IsHeaded, IsRefused, IsBatch, IsPlain}
+use Rattle.tt_log.specs.Rests.{rest_read, IsHeaded, IsRefused, IsBatch, IsPlain, GateSays}
 use Rattle.tt_log.specs.Starts.{starts_at}
-use Rattle.tt_log.specs.Ends.{HasEnd, HasGone, IsFileEnd, IsReached}
+use Rattle.tt_log.specs.Ends.{HasEnd, HasGone, IsFileEnd, IsReached, Closes, ClosesIfEnded}
 use Rattle.tt_log.proofs.Heads.{file_headed}
 use Rattle.tt_log.proofs.Sums.{total_more}
 use Rattle.tt_log.proofs.Skips.{starts_both}
@@ -57,10 +61,11 @@ pub before_twice : (es fs : List Entry) (part : Part) → before es (before fs p
 before_twice es fs (Ok part) = ap (λ (l : List Entry). Ok (l, part.1)) (sym (append_assoc es fs part.0))
 before_twice es fs (Err e) = refl
 
-pub reached_more : (wanted n : ℕ) (file : Option (List ℕ)) (at next : Reached) (body : List ℕ) → IsReached wanted n file at → IsPlain n at.gate at.offset file body → next.gate ≡ at.gate + 9 + length body → next.offset ≡ at.offset + length body
+pub reached_more : (wanted n : ℕ) (file : Option (List ℕ)) (at next : Reached) (body : List ℕ) → IsReached wanted n file at → IsPlain n at.gate at.offset file body → gate_in at.gate file ≡ Ok (Full (length body)) → next.gate ≡ at.gate + 9 + length body → next.offset ≡ at.offset + length body
     → ((es : List Entry) → entries_of body ≡ Some es → total es ≡ length body → next.starts ≡ (at.starts || starts_at wanted at.offset es)) → IsReached wanted n file next
-reached_more wanted n file at next body r p gate offset starts = record {
+reached_more wanted n file at next body r p says gate offset starts = record {
   es = r.es ++ p.es;
+  gate = subst (λ (k : ℕ). IsGate file k) (sym gate) (next_gate file at.gate (length body) r.gate says);
   is = r.is ∙ ap (before r.es) p.goes ∙ before_twice r.es p.es (rest_read n (at.gate + 9 + length body) (at.offset + length body) file)
       ∙ ap (λ (k : ℕ). before (r.es ++ p.es) (rest_read n k (at.offset + length body) file)) (sym gate) ∙ ap (λ (k : ℕ). before (r.es ++ p.es) (rest_read n next.gate k file)) (sym offset);
   long = total_more r.es p.es ∙ omega (arith, r.long, p.long, offset);
@@ -77,9 +82,10 @@ pub none_before : (part : Part) → part ≡ before [] part
 none_before (Ok part) = refl
 none_before (Err e) = refl
 
-pub at_start : (wanted n : ℕ) (file : Option (List ℕ)) (at : Reached) → at.gate ≡ 16 → at.offset ≡ 0 → at.starts ≡ false → IsReached wanted n file at
-at_start wanted n file at gate offset starts = record {
+pub at_start : (wanted n : ℕ) (file : Option (List ℕ)) (at : Reached) → IsHeaded n file → at.gate ≡ 16 → at.offset ≡ 0 → at.starts ≡ false → IsReached wanted n file at
+at_start wanted n file at headed gate offset starts = record {
   es = [];
+  gate = subst (λ (k : ℕ). IsGate file k) (sym gate) (first_gate file headed.0);
   is = none_before (rest_read n 16 0 file) ∙ ap (λ (k : ℕ). before [] (rest_read n k 0 file)) (sym gate) ∙ ap (λ (k : ℕ). before [] (rest_read n at.gate k file)) (sym offset);
   long = sym offset;
   starts = starts;
@@ -92,6 +98,19 @@ pub is_plain : (n gate offset : ℕ) (file : Option (List ℕ)) (r : Answer) (b 
 is_plain n gate offset file r b body says is one =
     let P : Answer → Type 0 = λ q. IsBatch n gate offset file q in
     subst P (is ∙ ap (λ (k : Batch). Ok k) one) says
+
+-- the closed gate that ends a file
+pub closes_at : (wanted n : ℕ) (file : Option (List ℕ)) (at : Reached) (end : FileEnd) (b : Batch) → IsReached wanted n file at → GateSays at.gate file b → b ≡ Closed → end.gate ≡ at.gate → Closes file end
+closes_at wanted n file at end b r says one here turned = subst (λ (k : ℕ). IsGateEnd file k) (sym here) (last_gate file at.gate r.gate (subst (λ (k : Batch). GateSays at.gate file k) one says))
+
+pub says_full : (gate : ℕ) (file : Option (List ℕ)) (b : Batch) (body : Bytes) → GateSays gate file b → b ≡ Entries body → gate_in gate file ≡ Ok (Full (length body.items))
+says_full gate file b body says one = subst (λ (k : Batch). GateSays gate file k) one says
+
+pub closes_same : (file other : Option (List ℕ)) (end : FileEnd) → Closes file end → file ≡ other → Closes other end
+closes_same file other end closes same = subst (λ o. Closes o end) same closes
+
+pub end_closes : (file other : Option (List ℕ)) (w : Went) (end : FileEnd) → ClosesIfEnded file w → w ≡ Ends end → file ≡ other → Closes other end
+end_closes file other w end closes one same = closes_same file other end (subst (λ (k : Went). ClosesIfEnded file k) one closes) same
 
 pub gone_on : (wanted n : ℕ) (file other : Option (List ℕ)) (r : Result Went LogRefusal) (w : Went) (next : Reached) → HasGone wanted n file r → r ≡ Ok w → w ≡ On next → file ≡ other → IsReached wanted n other next
 gone_on wanted n file other r w next says is one same =

@@ -1,6 +1,5 @@
 -- What is read of a file behind one of its gates.
 use Rattle.std.proofs.Common.{◌≡◌, ◌⊎◌, inl, inr, ℕ, ◌+◌, ◌<◌, ◌≤◌, Bool, true, false, nat_le, nat_lt, ◌&&◌, ◌==◌, List, [], ◌∷◌, length, take, drop, Option, Some, None, Result, Ok, Err, refl, sym, ◌∙◌, ap, subst, arith, if◌then◌else◌, le-leb, length-append}
-use Rattle.std.proofs.Math.Dec.{ltb}
 use Rattle.std.proofs.lemmas.Bool.{ltb-true}
 use Rattle.std.proofs.lemmas.Bool.Decides.{nat_tests}
 use Rattle.tt_disk.specs.Volume.{size_of, bytes_of}
@@ -8,10 +7,11 @@ use Rattle.tt_gate.specs.declared.gate.Gate.{Gate}
 use Rattle.tt_gate.specs.declared.gate.Gate.TheVariants.{Closed as Shut, Full}
 use Rattle.tt_gate.specs.declared.gate.GateRefusal.{GateRefusal}
 use Rattle.tt_gate.specs.declared.gate.GateRefusal.TheVariants.{Absent, BadHeader, BadBatch as GateBad, Failed as GateFailed}
-use Rattle.tt_gate.specs.Answers.{gate_in, gate_of as gate_from}
-use Rattle.tt_gate.specs.Gate.{behind_body, length_at}
+use Rattle.tt_gate.specs.Answers.{gate_in}
+use Rattle.tt_gate.specs.Gate.{behind_body}
 use Rattle.tt_gate.specs.Steps.{bodies_at, walked_at, full_gate, full_walked, bad_gate, closed_gate}
 use Rattle.tt_gate.specs.Laws.{full_gate_inside}
+use Rattle.tt_gate.specs.Walk.{bad_there}
 use Rattle.tt_value.specs.WordLaws.{AreBytes}
 use Rattle.tt_record.specs.declared.entry.Entry.{Entry}
 use Rattle.tt_record.specs.declared.entry.Entry.TheVariants.{Change, Commit, Abort, Mark, Switch}
@@ -112,24 +112,12 @@ turn_then n at next offset o last more w =
     ap (λ p. batch_read n at next offset p last more) w.is ∙ ap (λ (b : Bool). chosen b (turns n w.es) last w.es n at next offset more) w.plain
     ∙ ap (λ (b : Bool). chosen false b last w.es n at next offset more) w.turn
 
-abbrev says_full : ℕ → Result Gate GateRefusal
-says_full n = Ok (Full n)
+-- a gate of a file that is there isn't refused so
+no_absent : {C : Type 0} (at : ℕ) (file : List ℕ) → gate_in at (Some file) ≡ Err Absent → C
+no_absent at file is = let bad = bad_there at Absent file is in cc
 
-other_by : (at n : ℕ) (e : GateRefusal) (opened whole : Bool) → (e ≡ GateBad at → ⊥) → ¬ ((if opened then (if whole then says_full n else Err (GateBad at)) else Ok Shut) ≡ Err e)
-other_by at n e true true apart is = cc
-other_by at n e true false apart is = apart (let same : e ≡ GateBad at = cc in same)
-other_by at n e false whole apart is = cc
-
--- a gate of a file that is there is refused as damaged, and in no other way
-other_gate : (at : ℕ) (e : GateRefusal) (bytes : List ℕ) → (e ≡ GateBad at → ⊥) → ¬ (gate_from at bytes ≡ Err e)
-other_gate at e [] apart is = apart (let same : e ≡ GateBad at = cc in same)
-other_gate at e (gate ∷ rest) apart is = other_by at (length_at rest) e (gate == 1) (ltb 0 (length_at rest) && ltb (8 + length_at rest) (length rest)) apart is
-
-no_absent : (at : ℕ) (bytes : List ℕ) → ¬ (gate_from at bytes ≡ Err Absent)
-no_absent at bytes is = other_gate at Absent bytes (λ same. cc) is
-
-no_header : (at : ℕ) (bytes : List ℕ) → ¬ (gate_from at bytes ≡ Err BadHeader)
-no_header at bytes is = other_gate at BadHeader bytes (λ same. cc) is
+no_header : {C : Type 0} (at : ℕ) (file : List ℕ) → gate_in at (Some file) ≡ Err BadHeader → C
+no_header at file is = let bad = bad_there at BadHeader file is in cc
 
 pub batch_turn : (n gate offset : ℕ) (body : List ℕ) (o : Option (List ℕ)) (r : Result Batch LogRefusal) → IsHeaded n o → IsFull gate body o → body_in n (entries_of body) ≡ Turn
     → (r ≡ Err Failed) ⊎ (r ≡ turned_by n (gate + 9 + length body) (gate_in (gate + 9 + length body) o)) → IsBatch n gate offset o r
@@ -148,8 +136,8 @@ batch_turn n gate offset body (Some f) r h full is answer = by_answer answer
     by_gate (Err (GateBad b)) says =
         inr (inr (turned ∙ ap (λ (l : List (List ℕ)). if is_last l then after_turn (rest_read n (gate + 9 + length body) (offset_behind offset (entries_of body)) (Some f)) else Err (BadBatch n (gate + 9 + length body))) (bad_gate (gate + 9 + length body) b f (omega arith) (omega (arith, h.0)) says).1
         ∙ ap after_turn (rest_bad n (gate + 9 + length body) (offset_behind offset (entries_of body)) b (Some f) h (omega arith) says)))
-    by_gate (Err Absent) says = absurd (no_absent (gate + 9 + length body) (drop (gate + 9 + length body) f) says)
-    by_gate (Err BadHeader) says = absurd (no_header (gate + 9 + length body) (drop (gate + 9 + length body) f) says)
+    by_gate (Err Absent) says = no_absent (gate + 9 + length body) f says
+    by_gate (Err BadHeader) says = no_header (gate + 9 + length body) f says
     by_gate (Err GateFailed) says = inl refl
 
     by_answer : (r ≡ Err Failed) ⊎ (r ≡ turned_by n (gate + 9 + length body) (gate_in (gate + 9 + length body) (Some f))) → IsBatch n gate offset (Some f) r
@@ -221,8 +209,8 @@ gate_refused n gate offset (Some f) e h some (inr same) = by_gate (gate_in gate 
     by_gate : (g : Result Gate GateRefusal) → gate_in gate (Some f) ≡ g → (◌≡◌ {A = Result Gate LogRefusal} (Err e) (gate_for n g)) → IsRefused e (rest_read n gate offset (Some f))
     by_gate (Ok g) says is = cc
     by_gate (Err (GateBad b)) says is = let same : e ≡ BadBatch n b = cc in inr (inr (rest_bad n gate offset b (Some f) h some says ∙ ap (λ (x : LogRefusal). Err x) (sym same)))
-    by_gate (Err Absent) says is = absurd (no_absent gate (drop gate f) says)
-    by_gate (Err BadHeader) says is = absurd (no_header gate (drop gate f) says)
+    by_gate (Err Absent) says is = no_absent gate f says
+    by_gate (Err BadHeader) says is = no_header gate f says
     by_gate (Err GateFailed) says is = inl (let same : e ≡ Failed = cc in same)
 
 abbrev gate_ok : Gate → Result Gate LogRefusal

@@ -15,6 +15,7 @@ use Rattle.tt_log.specs.declared.file.Reached.{Reached}
 use Rattle.tt_log.specs.declared.file.Went.{Went}
 use Rattle.tt_log.specs.declared.file.Went.TheVariants.{On, Ends}
 use Rattle.tt_log.specs.declared.refusal.LogRefusal.{LogRefusal}
+use Rattle.tt_log.specs.declared.start.LogEnd.{LogEnd}
 use Rattle.tt_log.specs.Walk.{Files, Part, before, file_read, placed, in_front, on_part, log_of}
 use Rattle.tt_log.specs.Rests.{rest_read, IsHeaded, IsPlain}
 use Rattle.tt_log.specs.Logs.{entries_in}
@@ -173,7 +174,7 @@ files_end n k old new files end below g e turned fs b one ps t =
 pub log_taken : (n : ℕ) (old mid new : Took) (files : Files) (end : FileEnd) → IsEnd (file_read n (files (Log n))) end → TakesPart n old mid (file_read n (files (Log n))) → TakesLog n mid new files → Takes old new (entries_in (log_of n files))
 log_taken n old mid new files end e part more ps t = more e.es end.turned e.is ps (part e.es end.turned e.is ps t)
 
-pub taken_all : (n : ℕ) (old mid new : Took) (files others : Files) (end : FileEnd) (r : Result Position LogRefusal) → IsEnd (file_read n (files (Log n))) end → TakesPart n old mid (file_read n (files (Log n))) → others ≡ files
+pub taken_all : (n : ℕ) (old mid new : Took) (files others : Files) (end : FileEnd) (r : Result LogEnd LogRefusal) → IsEnd (file_read n (files (Log n))) end → TakesPart n old mid (file_read n (files (Log n))) → others ≡ files
     → OnOk r (TakesLog n mid new others) → OnOk r (Takes old new (entries_in (log_of n files)))
 taken_all n old mid new files others end (Ok at) e part same more = log_taken n old mid new files end e part (subst (λ (f : Files). TakesLog n mid new f) same more)
 taken_all n old mid new files others end (Err refusal) e part same more = more

@@ -71,6 +71,12 @@ IsBatch n gate offset file (Ok Turned) = rest_read n gate offset file ≡ Ok ([]
 IsBatch n gate offset file (Ok (Entries body)) = IsPlain n gate offset file body.items
 IsBatch n gate offset file (Err e) = IsRefused e (rest_read n gate offset file)
 
+-- what the gate before a batch says, unless it is that of a Switch
+abbrev pub GateSays : ℕ → Option (List ℕ) → Batch → Type 0
+GateSays gate file Closed = gate_in gate file ≡ Ok Shut
+GateSays gate file Turned = Unit {0}
+GateSays gate file (Entries body) = gate_in gate file ≡ Ok (Full (length body.items))
+
 -- the ranges of a batch
 abbrev pub IsWithin : ℕ → ℕ → ℕ → Batch → Type 0
 IsWithin n gate offset Closed = Unit {0}

@@ -5,8 +5,8 @@ ghost use Rattle.tt_disk.specs.Causes.{RoseWhere};
 ghost use Rattle.tt_disk.specs.Volume.{Keeps, bytes_of, size_of};
 ghost use Rattle.tt_gate.specs.Answers.{gate_in, EndsWithin};
 ghost use Rattle.tt_gate.specs.declared.gate.Gate.TheVariants.{Full};
-ghost use Rattle.tt_log.specs.Rests.{IsHeaded, IsBatch, IsFull, IsWithin, gate_for, refusal_of, turned_by};
-ghost use Rattle.tt_log.specs.Walk.{file_read, file_most};
+ghost use Rattle.tt_log.specs.Rests.{IsHeaded, IsBatch, IsFull, IsWithin, GateSays, gate_for, refusal_of, turned_by};
+ghost use Rattle.tt_log.specs.Walk.{file_read};
 ghost use Rattle.tt_log.specs.declared.refusal.LogRefusal.TheVariants.{Gap, Failed};
 
 use crate::body::{Body, body_of};
@@ -31,7 +31,7 @@ pub(crate) enum Batch {
 }
 
 // What a refusal of a file's gates is for the log.
-pub(crate) fn refusal_of(number: u32, refusal: GateRefusal) -> LogRefusal
+fn refusal_of(number: u32, refusal: GateRefusal) -> LogRefusal
     ensures { result ≡ refusal_of number refusal }
 {
     match refusal {
@@ -132,6 +132,7 @@ fn judge<V: Volume>(
     requires inside { gate + 9 + length body.items < 2 ^ 62 }
     requires some { 0 < length body.items }
     ensures exact { V.told → IsBatch number gate offset (V.now volume.old (LogFile number)) result }
+    ensures gate { V.told → IfOk result (λ batch. GateSays gate (V.now volume.old (LogFile number)) batch) }
     ensures within { IfOk result (λ batch. IsWithin number gate offset batch) }
     ensures keeps { V.told → Keeps (V.now volume.old) (V.now volume.new) (V.may volume.old) (V.may volume.new) }
     ensures cause { RoseWhere (IsErrOf result Failed) (V.faults volume.old) (V.faults volume.new) }
@@ -169,6 +170,7 @@ fn read_full<V: Volume>(
     requires inside { gate + 9 + count < 2 ^ 62 }
     requires some { 0 < count }
     ensures exact { V.told → IsBatch number gate offset (V.now volume.old (LogFile number)) result }
+    ensures gate { V.told → IfOk result (λ batch. GateSays gate (V.now volume.old (LogFile number)) batch) }
     ensures within { IfOk result (λ batch. IsWithin number gate offset batch) }
     ensures keeps { V.told → Keeps (V.now volume.old) (V.now volume.new) (V.may volume.old) (V.may volume.new) }
     ensures cause { RoseWhere (IsErrOf result Failed) (V.faults volume.old) (V.faults volume.new) }
@@ -190,6 +192,7 @@ pub(crate) fn read_batch<V: Volume>(
     requires headed { V.told → IsHeaded number (V.now volume.old (LogFile number)) }
     requires gate { 0 < gate }
     ensures exact { V.told → IsBatch number gate offset (V.now volume.old (LogFile number)) result }
+    ensures gate { V.told → IfOk result (λ batch. GateSays gate (V.now volume.old (LogFile number)) batch) }
     ensures within { IfOk result (λ batch. IsWithin number gate offset batch) }
     ensures keeps { V.told → Keeps (V.now volume.old) (V.now volume.new) (V.may volume.old) (V.may volume.new) }
     ensures cause { RoseWhere (IsErrOf result Failed) (V.faults volume.old) (V.faults volume.new) }

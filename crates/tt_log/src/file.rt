@@ -1,5 +1,5 @@
 // The entries of a log file, from its first gate to its last.
-ghost use Rattle.std.specs.Prelude.{◌≡◌, ◌⊎◌, ◌<◌, ◌≤◌, ◌+◌, ◌^◌, ◌||◌, ◌==◌, List, length, Some, IfOk, IfErr, IsErrOf, OnOk};
+ghost use Rattle.std.specs.Prelude.{◌≡◌, ◌<◌, ◌≤◌, ◌+◌, ◌^◌, ◌||◌, ◌==◌, List, length, Some, IfOk, IfErr, IsErrOf, OnOk};
 ghost use Rattle.tt_disk.specs.declared.volume.Name.TheVariants.{Log as LogFile};
 ghost use Rattle.tt_disk.specs.Causes.{RoseWhere};
 ghost use Rattle.tt_disk.specs.Volume.{Keeps};
@@ -10,7 +10,7 @@ ghost use Rattle.tt_log.specs.Starts.{starts_at};
 ghost use Rattle.tt_log.specs.Rests.{IsHeaded, rest_read};
 ghost use Rattle.tt_log.specs.Walk.{file_read, file_most, placed};
 ghost use Rattle.tt_log.specs.Takes.{Takes, TakesOn, TakesPart};
-ghost use Rattle.tt_log.specs.Ends.{IsFileEnd, IsReached, IsInRange, HasGone, GoesWithin};
+ghost use Rattle.tt_log.specs.Ends.{IsFileEnd, IsReached, IsInRange, HasGone, GoesWithin, Closes, ClosesIfEnded};
 ghost use Rattle.tt_log.specs.declared.refusal.LogRefusal.TheVariants.{Failed};
 
 use crate::batch::{Batch, check_header, read_batch};
@@ -29,6 +29,8 @@ pub(crate) struct FileEnd {
     pub turned: bool,
     // Whether the offset that was asked for is the start of an entry, or the end of all.
     pub is_place: bool,
+    // Where the gate behind them lies. It is closed, unless a Switch stands behind it.
+    pub gate: u64,
 }
 
 // How far a file was read.
@@ -82,11 +84,13 @@ fn end_at(at: Reached, wanted: u32, turned: bool) -> FileEnd
     ensures total { result.total ≡ at.offset }
     ensures turned { result.turned ≡ turned }
     ensures place { result.is_place ≡ (at.starts || (at.offset == wanted)) }
+    ensures gate { result.gate ≡ at.gate }
 {
     FileEnd {
         total: at.offset,
         turned,
         is_place: at.starts || at.offset == wanted,
+        gate: at.gate,
     }
 }
 
@@ -100,10 +104,11 @@ fn go_on<V: Volume, T: Taker>(
     taker: &mut T,
 ) -> Result<Went, LogRefusal>
     requires headed { V.told → IsHeaded number (V.now volume.old (LogFile number)) }
-    requires gate { 0 < at.gate }
+    requires gate { (0 < at.gate) × (at.gate < 2 ^ 62) }
     requires reached { V.told → IsReached wanted number (V.now volume.old (LogFile number)) at }
     requires room { at.offset ≤ file_most }
     ensures exact { V.told → HasGone wanted number (V.now volume.old (LogFile number)) result }
+    ensures closed { V.told → IfOk result (λ went. ClosesIfEnded (V.now volume.old (LogFile number)) went) }
     ensures within { IfOk result (λ went. GoesWithin number at.gate went) }
     ensures given { V.told → TakesOn number (T.took taker.old) (T.took taker.new) at
         (V.now volume.old (LogFile number)) result }
@@ -133,6 +138,7 @@ fn read_batches<V: Volume, T: Taker>(
     ensures exact { V.told → IsFileEnd wanted (rest_read number 16 0 (V.now volume.old (LogFile number))) result }
     ensures given { V.told → OnOk result (TakesPart number (T.took taker.old) (T.took taker.new)
         (rest_read number 16 0 (V.now volume.old (LogFile number)))) }
+    ensures closed { V.told → IfOk result (λ end. Closes (V.now volume.old (LogFile number)) end) }
     ensures within { IfOk result (λ end. IsInRange number end) }
     ensures keeps { V.told → Keeps (V.now volume.old) (V.now volume.new) (V.may volume.old) (V.may volume.new) }
     ensures cause { RoseWhere (IsErrOf result Failed) (V.faults volume.old) (V.faults volume.new) }
@@ -162,6 +168,7 @@ pub(crate) fn read_file<V: Volume, T: Taker>(
     ensures exact { V.told → IsFileEnd wanted (file_read number (V.now volume.old (LogFile number))) result }
     ensures given { V.told → OnOk result (TakesPart number (T.took taker.old) (T.took taker.new)
         (file_read number (V.now volume.old (LogFile number)))) }
+    ensures closed { V.told → IfOk result (λ end. Closes (V.now volume.old (LogFile number)) end) }
     ensures within { IfOk result (λ end. IsInRange number end) }
     ensures keeps { V.told → Keeps (V.now volume.old) (V.now volume.new) (V.may volume.old) (V.may volume.new) }
     ensures cause { RoseWhere (IsErrOf result Failed) (V.faults volume.old) (V.faults volume.new) }

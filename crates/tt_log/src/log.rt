@@ -6,7 +6,7 @@ ghost use Rattle.tt_disk.specs.Causes.{HasCause};
 ghost use Rattle.tt_disk.specs.Laws.{OnlyAt};
 ghost use Rattle.tt_record.specs.declared.entry.Entry.TheVariants.{Switch};
 ghost use Rattle.tt_record.specs.Entries.{entry_bytes, length_of, IsEntry, IsBody};
-ghost use Rattle.tt_log.specs.Walk.{log_header, is_at_or_next};
+ghost use Rattle.tt_log.specs.Walk.{is_at_or_next};
 ghost use Rattle.tt_record.specs.Places.{position};
 
 use crate::fits::all_fit;
@@ -14,7 +14,7 @@ use crate::header::header;
 use crate::refusal::LogRefusal;
 use crate::removal::remove_logs;
 use crate::scan::Scan;
-use crate::start::{find_entries, open_last};
+use crate::start::find_entries;
 use crate::taker::{Dropper, Taker};
 use std::alloc::Global;
 use tt_disk::{Failed, Name, Volume};
@@ -187,22 +187,18 @@ impl Log {
             Ok(end) => end,
             Err(refusal) => return Err(refusal),
         };
-        let file = match open_last(volume, end.file) {
-            Ok(file) => file,
-            Err(refusal) => return Err(refusal),
-        };
         let buffer = match vec![in alloc; 0; log_buf_size as usize] {
             Ok(buffer) => buffer,
             Err(_) => return Err(LogRefusal::NoMemory),
         };
         Ok(Log {
             first: from.file,
-            number: end.file,
-            file,
-            base: end.offset,
+            number: end.at.file,
+            file: GateFile::at_end(Name::Log(end.at.file), end.gate),
+            base: end.at.offset,
             buffer,
             used: 0,
-            force: end,
+            force: end.at,
             file_size: log_file_size,
         })
     }

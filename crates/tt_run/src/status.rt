@@ -58,25 +58,33 @@ impl Status {
     }
 }
 
+/// The name of the status, and behind it the volume, the damage or the attribute: `Damaged BadBatch 0 53`.
 impl fmt::Display for Status {
+    ghost use Rattle.std.specs.Prelude.{Some};
+    ghost use Rattle.tt_run.specs.Statuses.{status_words};
+
+    ghost output = { λ status. Some (status_words status) };
+
     fn fmt<W: fmt::Write>(&self, f: &mut fmt::Formatter<W>) -> fmt::Result {
         match self {
-            Status::Done => write!(f, "Done"),
-            Status::ScriptFault => write!(f, "ScriptFault"),
-            Status::AttributesFault => write!(f, "AttributesFault"),
-            Status::SinkFault => write!(f, "SinkFault"),
-            Status::VolumeFault(stop) => write!(f, "VolumeFault {stop:?}"),
-            Status::NoMemory => write!(f, "NoMemory"),
-            Status::Usage => write!(f, "Usage"),
+            Status::Done => f.write_str("Done"),
+            Status::ScriptFault => f.write_str("ScriptFault"),
+            Status::AttributesFault => f.write_str("AttributesFault"),
+            Status::SinkFault => f.write_str("SinkFault"),
+            Status::VolumeFault(Stop::Logs) => f.write_str("VolumeFault Logs"),
+            Status::VolumeFault(Stop::Images) => f.write_str("VolumeFault Images"),
+            Status::VolumeFault(Stop::Backups) => f.write_str("VolumeFault Backups"),
+            Status::NoMemory => f.write_str("NoMemory"),
+            Status::Usage => f.write_str("Usage"),
             Status::Damaged(Damage::LogGap { file }) => write!(f, "Damaged LogGap {file}"),
             Status::Damaged(Damage::BadBatch { file, at }) => {
                 write!(f, "Damaged BadBatch {file} {at}")
             }
-            Status::Exists => write!(f, "Exists"),
-            Status::NoDatabase => write!(f, "NoDatabase"),
+            Status::Exists => f.write_str("Exists"),
+            Status::NoDatabase => f.write_str("NoDatabase"),
             Status::BadAttribute(name) => write!(f, "BadAttribute {}", name.as_str()),
-            Status::LogOut => write!(f, "LogOut"),
-            Status::ScriptTooLong => write!(f, "ScriptTooLong"),
+            Status::LogOut => f.write_str("LogOut"),
+            Status::ScriptTooLong => f.write_str("ScriptTooLong"),
         }
     }
 }

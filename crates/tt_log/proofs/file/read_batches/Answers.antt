@@ -2,13 +2,17 @@ use Rattle.std.proofs.Common.{◌∙◌, subst, arith}
 use Rattle.tt_disk.specs.declared.volume.Name.TheVariants.{Log as LogFile}
 use Rattle.tt_disk.specs.Laws.{count_stays, keeps_then_keeps}
 use Rattle.tt_log.specs.Takes.{TakesUpTo, TakesOn, at_first}
-use Rattle.tt_log.proofs.Reaching.{gone_on, gone_ends}
+use Rattle.tt_log.proofs.Reaching.{gone_on, gone_ends, end_closes}
 use Rattle.tt_log.proofs.Taking.{up_to_more, up_to_end, went_on, went_to_end}
 use Rattle.tt_log.proofs.file.read_batches.Goals as goal
 
 pub returns-in-Ok-Ends-clause-exact : goal.returns-in-Ok-Ends-clause-exact
 returns-in-Ok-Ends-clause-exact g c told =
     gone_ends c.args.wanted c.args.number _ _ c.go_on.result c.in-Ok-Ends.field-0 c.in-Ok-Ends.end (c.go_on.ensures.exact told) c.in-Ok-Ends.is c.in-Ok-Ends.field-0-is ((c.batches.invariant.keeps told).reads (LogFile c.args.number))
+
+pub returns-in-Ok-Ends-clause-closed : goal.returns-in-Ok-Ends-clause-closed
+returns-in-Ok-Ends-clause-closed g c told =
+    end_closes _ _ c.in-Ok-Ends.field-0 c.in-Ok-Ends.end (c.in-Ok-Ends.ensures.closed told) c.in-Ok-Ends.field-0-is ((c.batches.invariant.keeps told).reads (LogFile c.args.number))
 
 pub batches-preserved : goal.batches-preserved
 batches-preserved g c =

@@ -1,5 +1,8 @@
 use Rattle.tt_disk.specs.declared.volume.Name.TheVariants.{Log as LogFile}
-use Rattle.std.proofs.Common.{◌≡◌, sym, refl}
+use Rattle.std.proofs.Common.{◌≡◌, sym, refl, subst}
+use Rattle.tt_log.specs.Walk.{Files}
+use Rattle.tt_log.specs.Starts.{started}
+use Rattle.tt_log.specs.Ends.{IsFollowed}
 use Rattle.tt_log.proofs.Following.{start_past, end_answered, end_refused, first_refused}
 use Rattle.tt_log.proofs.Taking.{taken_all}
 use Rattle.tt_log.proofs.start.find_entries.Goals as goal
@@ -15,6 +18,11 @@ pub returns-in-Err-clause-exact : goal.returns-in-Err-clause-exact
 returns-in-Err-clause-exact g c told =
     first_refused c.args.from (g.V.Volume.now c.args.volume.now) c.in-Err.refusal c.if-from-ge-LOG_FILES_END.false
     (end_refused c.args.from.offset c.args.from.file _ _ c.read_file.result c.in-Err.refusal (c.read_file.ensures.exact told) c.in-Err.is refl)
+
+pub returns-in-Ok-clause-exact : goal.returns-in-Ok-clause-exact
+returns-in-Ok-clause-exact g c told =
+    let same : g.V.Volume.now c.read_file.new.volume ≡ g.V.Volume.now c.args.volume.now = λ i n. (c.read_file.ensures.keeps told).reads n i in
+    subst (λ (files : Files). IsFollowed (started c.args.from files) c.follow_from.result) same (c.follow_from.ensures.exact told)
 
 pub returns-in-Ok-clause-given : goal.returns-in-Ok-clause-given
 returns-in-Ok-clause-given g c told =

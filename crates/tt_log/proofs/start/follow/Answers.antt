@@ -2,6 +2,7 @@ use Rattle.std.proofs.Common.{◌∙◌, ◌<◌, ◌+◌, ap, arith}
 use Rattle.tt_disk.specs.declared.volume.Name.TheVariants.{Log as LogFile}
 use Rattle.tt_disk.specs.Laws.{count_stays, keeps_then_keeps}
 use Rattle.tt_log.proofs.Following.{gone_more, gone_end, gone_refused, end_answered, end_refused}
+use Rattle.tt_log.proofs.Reaching.{closes_same}
 use Rattle.tt_log.specs.Walk.{file_read}
 use Rattle.tt_log.proofs.Taking.{files_more, files_end, part_same}
 use Rattle.tt_log.proofs.start.follow.Goals as goal
@@ -24,6 +25,7 @@ files-preserved g c =
       stays = count_stays _ _ _ _ c.in-Ok.ensures.cause ∙ c.files.invariant.stays;
       keeps = λ told. keeps_then_keeps _ _ _ _ _ _ (c.files.invariant.keeps told) (c.read_file.ensures.keeps told);
       gone = λ told. gone_more c.args.number c.files.file (g.V.Volume.now c.args.volume.now) c.files.end c.files.invariant.below (c.files.invariant.gone told) (c.files.invariant.end told) c.files-test.true;
+      closed = λ told. closes_same _ _ c.in-Ok.next (c.in-Ok.ensures.closed told) ((c.files.invariant.keeps told).reads (LogFile (c.files.file + 1)));
       end = λ told. (end_answered 0 (c.files.file + 1) _ _ c.read_file.result c.in-Ok.next (c.read_file.ensures.exact told) c.in-Ok.is ((c.files.invariant.keeps told).reads (LogFile (c.files.file + 1)))).end_is;
       given = λ told. files_more c.args.number c.files.file (g.T.Taker.took c.args.taker.now) (g.T.Taker.took c.files.taker) (g.T.Taker.took c.read_file.new.taker) (g.V.Volume.now c.args.volume.now) c.files.end c.files.invariant.below (c.files.invariant.given told) (c.files.invariant.end told) c.files-test.true
           (part_same (c.files.file + 1) (g.T.Taker.took c.files.taker) (g.T.Taker.took c.read_file.new.taker) _ _ (ap (file_read (c.files.file + 1)) ((c.files.invariant.keeps told).reads (LogFile (c.files.file + 1)))) (c.in-Ok.ensures.given told));

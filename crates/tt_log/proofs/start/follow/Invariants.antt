@@ -2,7 +2,7 @@ use Rattle.std.proofs.Common.{◌≡◌, ◌≤◌, ◌<◌, ◌-◌}
 use Rattle.tt_disk.specs.declared.volume.Name.TheVariants.{Log as LogFile}
 use Rattle.tt_disk.specs.Volume.{Keeps}
 use Rattle.tt_log.specs.Walk.{file_read}
-use Rattle.tt_log.specs.Ends.{IsEnd, IsInRange}
+use Rattle.tt_log.specs.Ends.{IsEnd, IsInRange, Closes}
 use Rattle.tt_log.proofs.Following.{GoneTo}
 use Rattle.tt_log.proofs.Taking.{TakesFiles}
 use Rattle.tt_log.proofs.start.follow.Given as goal
@@ -18,6 +18,7 @@ invariant-files g l = record {
   stays : g.V.Volume.faults l.volume ≡ g.V.Volume.faults l.initial.volume;
   keeps : g.V.Volume.told → Keeps (g.V.Volume.now l.initial.volume) (g.V.Volume.now l.volume) (g.V.Volume.may l.initial.volume) (g.V.Volume.may l.volume);
   gone : g.V.Volume.told → GoneTo l.number l.file (g.V.Volume.now l.initial.volume);
+  closed : g.V.Volume.told → Closes (g.V.Volume.now l.initial.volume (LogFile l.file)) l.end;
   end : g.V.Volume.told → IsEnd (file_read l.file (g.V.Volume.now l.initial.volume (LogFile l.file))) l.end;
   given : g.V.Volume.told → TakesFiles l.number l.file (g.T.Taker.took l.initial.taker) (g.T.Taker.took l.taker) (g.V.Volume.now l.initial.volume);
 }
