@@ -144,8 +144,8 @@ opened_lines settings files found status script sink logs is place ends =
 pub opened_refused : (settings : Settings) (r : Result Found OpenRefusal) (refusal : OpenRefusal) (status : Status) → r ≡ Err refusal → IsOpened settings (Err refusal) status → IsOpened settings r status
 opened_refused settings r refusal status is so = subst (λ (r : Result Found OpenRefusal). IsOpened settings r status) (sym is) so
 
-pub opened_out : (settings : Settings) (files : Files) (found : Found) → opening files ≡ Ok found → IsOpened settings (database files) LogOut
-opened_out settings files found is = subst (λ (r : Result Found OpenRefusal). IsOpened settings r LogOut) (sym (database_found files found is)) tt
+pub opened_out : (settings : Settings) (files : Files) (found : Found) → opening files ≡ Ok found → mark_place settings found ≡ None → IsOpened settings (database files) LogOut
+opened_out settings files found is none = subst (λ (r : Result Found OpenRefusal). IsOpened settings r LogOut) (sym (database_found files found is)) none
 
 pub failed_volume : (settings : Settings) (r : Result Found OpenRefusal) → IsOpened settings r (VolumeFault Logs)
 failed_volume settings (Ok found) = tt
@@ -154,10 +154,6 @@ failed_volume settings (Err refusal) = inr tt
 pub wanted_memory : (settings : Settings) (r : Result Found OpenRefusal) → IsOpened settings r NoMemory
 wanted_memory settings (Ok found) = tt
 wanted_memory settings (Err refusal) = inr tt
-
-pub failed_attributes : (settings : Settings) (r : Result Found OpenRefusal) → IsOpened settings r AttributesFault
-failed_attributes settings (Ok found) = tt
-failed_attributes settings (Err refusal) = inr tt
 
 same_ok : (r : Result Found LogRefusal) (a b : Found) → r ≡ Ok a → r ≡ Ok b → a ≡ b
 same_ok (Ok x) a b one two = cc

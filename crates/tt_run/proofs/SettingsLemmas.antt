@@ -9,18 +9,12 @@ use Rattle.tt_flow.proofs.Kept.{kept_put}
 use Rattle.std.proofs.lemmas.List.{length-take, length-take-le, take_all}
 use Rattle.std.proofs.Math.Seq.{take-append_seam}
 use Rattle.std.proofs.Common.{append-nil}
-use Rattle.tt_set.specs.Attributes.{Reads, Says}
+use Rattle.tt_set.specs.Attributes.{AreInRange, Reads, Says}
 use Rattle.tt_set.specs.declared.settings.Settings.{Settings}
-use Rattle.tt_disk.specs.declared.volume.Name.{Name}
-use Rattle.tt_log.specs.Walk.{Files}
-use Rattle.tt_model.specs.Found.{Found}
-use Rattle.tt_engine.specs.declared.refusal.OpenRefusal.{OpenRefusal}
 use Rattle.tt_run.specs.declared.status.Status.{Status}
 use Rattle.tt_run.specs.declared.status.Status.TheVariants.{Done, ScriptFault, AttributesFault, SinkFault, VolumeFault, NoMemory, Usage, Damaged, Exists, NoDatabase, BadAttribute, LogOut, ScriptTooLong}
-use Rattle.tt_run.specs.Openings.{EndedEarly, IsCreateText, IsCreated, IsFaultOf, IsOpened}
-use Rattle.tt_run.specs.Settings.{IsFrom, IsReadEnd, IsRefusedFor, IsSaid, IsUnread}
-use Rattle.tt_run.proofs.OpenLemmas.{failed_attributes, wanted_memory}
-use Rattle.tt_run.proofs.RunLemmas.{Outcomes}
+use Rattle.tt_run.specs.Openings.{IsCreateText, IsFaultOf}
+use Rattle.tt_run.specs.Settings.{AreSettings, EndedInAttributes, IsFrom, IsReadEnd, IsRefusedFor, IsSaid, IsUnread}
 
 -- of a text that is too long, one byte too many is enough
 cut_reads : (text : List ℕ) → length (take 65537 text) ≤ 65536 → take 65537 text ≡ text
@@ -129,24 +123,15 @@ ended_bad status fault name (wrong other is) said =
     let same : no_settings name ≡ no_settings other = subst (λ (x : Status). IsSaid (Err name) (Err x)) is said in
     inl (is ∙ ap (λ (n : List ℕ). BadAttribute n) (sym (same_Err name other same)))
 
-created_early : (log : Option (List ℕ)) (now : Files) (may : Name → Option (List ℕ) → Type 0) → IsCreated log AttributesFault now may × IsCreated log NoMemory now may
-created_early None now may = (tt, tt)
-created_early (Some f) now may = (tt, tt)
+pub ended_in_attributes : (status : Status) (fault : Type 0) → EndedSo status fault → EndedInAttributes status
+ended_in_attributes status fault (unread is f) = subst (λ (x : Status). EndedInAttributes x) (sym is) tt
+ended_in_attributes status fault (unremembered is) = subst (λ (x : Status). EndedInAttributes x) (sym is) tt
+ended_in_attributes status fault (wrong name is) = subst (λ (x : Status). EndedInAttributes x) (sym is) tt
 
-pub ended_created : (status : Status) (fault : Type 0) (settings : Settings) (log : Option (List ℕ)) (now : Files) (may : Name → Option (List ℕ) → Type 0) → EndedSo status fault → IsSaid (Ok settings) (Err status) → IsCreated log status now may
-ended_created status fault settings log now may (unread is f) said = subst (λ (x : Status). IsCreated log x now may) (sym is) (created_early log now may).0
-ended_created status fault settings log now may (unremembered is) said = subst (λ (x : Status). IsCreated log x now may) (sym is) (created_early log now may).1
-ended_created status fault settings log now may (wrong name is) said = absurd (ok_not_wrong settings status name is said)
-
-pub ended_opened : (status : Status) (fault : Type 0) (settings : Settings) (r : Result Found OpenRefusal) → EndedSo status fault → IsSaid (Ok settings) (Err status) → IsOpened settings r status
-ended_opened status fault settings r (unread is f) said = subst (λ (x : Status). IsOpened settings r x) (sym is) (failed_attributes settings r)
-ended_opened status fault settings r (unremembered is) said = subst (λ (x : Status). IsOpened settings r x) (sym is) (wanted_memory settings r)
-ended_opened status fault settings r (wrong name is) said = absurd (ok_not_wrong settings status name is said)
-
-pub ended_early : (status : Status) (fault untouched settled : Type 0) (settings : Settings) (found : Found) (now : Files) (may : Outcomes) → EndedSo status fault → IsSaid (Ok settings) (Err status) → EndedEarly status settings found untouched settled now may
-ended_early status fault untouched settled settings found now may (unread is f) said = subst (λ (x : Status). EndedEarly x settings found untouched settled now may) (sym is) tt
-ended_early status fault untouched settled settings found now may (unremembered is) said = subst (λ (x : Status). EndedEarly x settings found untouched settled now may) (sym is) tt
-ended_early status fault untouched settled settings found now may (wrong name is) said = absurd (ok_not_wrong settings status name is said)
+-- the settings that were read are those of the attributes
+pub are_settings : (attributes : Option (List ℕ)) (settings : Settings) → AreInRange settings → ((text : List ℕ) → attributes ≡ Some text → IsFrom text (Ok settings)) → AreSettings attributes settings
+are_settings None settings range says = range
+are_settings (Some text) settings range says = says text refl
 
 pub ended_text : (status : Status) (fault untouched : Type 0) (given : Option (List ℕ)) → EndedSo status fault → untouched → IsCreateText given given status untouched
 ended_text status fault untouched given (unread is f) same = subst (λ (x : Status). IsCreateText given given x untouched) (sym is) same

@@ -52,9 +52,8 @@ pub record OthersStay (status : Status) (script attributes sink logs : Type 0) :
   pub sink_stays : (status ≡ SinkFault) ⊎ sink
   pub logs_stay : (status ≡ VolumeFault Logs) ⊎ logs
 
--- the attributes, memory or the log files failed before the database was open
+-- memory was wanting, or the log files failed, before the database was open
 abbrev pub FailedEarly : Status → Type 0
-FailedEarly AttributesFault = Unit {0}
 FailedEarly NoMemory = Unit {0}
 FailedEarly (VolumeFault Logs) = Unit {0}
 FailedEarly _ = ⊥
@@ -90,15 +89,14 @@ abbrev pub mark_place : Settings → Found → Option Position
 mark_place settings found = place_of found.end (length_of Mark) settings.log_file_size
 
 -- How a run may end where the database was opened as this: what can't be opened is refused so, and where there is no place for a
--- Mark, no line is done. The attributes, memory or the log files may have failed before.
+-- Mark, no line is done. Memory may have been wanting before, or the log files failed.
 abbrev pub IsOpened : Settings → Result Found OpenRefusal → Status → Type 0
 IsOpened settings (Err refusal) status = (status ≡ status_of refusal) ⊎ FailedEarly status
 IsOpened settings (Ok found) Done = IsSome (mark_place settings found)
 IsOpened settings (Ok found) ScriptFault = IsSome (mark_place settings found)
 IsOpened settings (Ok found) SinkFault = IsSome (mark_place settings found)
 IsOpened settings (Ok found) ScriptTooLong = IsSome (mark_place settings found)
-IsOpened settings (Ok found) LogOut = Unit {0}
-IsOpened settings (Ok found) AttributesFault = Unit {0}
+IsOpened settings (Ok found) LogOut = mark_place settings found ≡ None
 IsOpened settings (Ok found) NoMemory = Unit {0}
 IsOpened settings (Ok found) (VolumeFault Logs) = Unit {0}
 IsOpened settings (Ok found) _ = ⊥
@@ -113,10 +111,9 @@ pub record HasNoPlace (attributes : Option (List ℕ)) (files : Files) : Type 0 
   pub opens : database files ≡ Ok found
   pub none : mark_place settings found ≡ None
 
--- A run over what was found ended before its first line: in the attributes, for want of memory, since the Mark has no place, or in
--- the log files. In the last case this is untouched, and a crash leaves what was found, and perhaps the Mark.
+-- A run over what was found ended before its first line: for want of memory, since the Mark has no place, or in the log files. In
+-- the last case this is untouched, and a crash leaves what was found, and perhaps the Mark.
 abbrev pub EndedEarly : Status → Settings → Found → Type 0 → Type 0 → Files → (Name → Option (List ℕ) → Type 0) → Type 0
-EndedEarly AttributesFault settings found untouched settled now may = Unit {0}
 EndedEarly NoMemory settings found untouched settled now may = Unit {0}
 EndedEarly LogOut settings found untouched settled now may = mark_place settings found ≡ None
 EndedEarly (VolumeFault Logs) settings found untouched settled now may = untouched × (settled → LeavesOpening (length found.entries) (begun_over settings now found) may)
@@ -133,13 +130,11 @@ abbrev pub HasNewDatabase : Files → (Name → Option (List ℕ) → Type 0) �
 HasNewDatabase now may = (database now ≡ Ok new_database) × ((k : ℕ) → 0 < k → k < 2 ^ 32 → now (LogFile k) ≡ None) × LogsAreSettled now may
 
 -- How `create` ended where the first log file was this: where it was there, it is refused; else a new database was made, unless the
--- log files failed. The attributes or memory may have failed before.
+-- log files failed.
 abbrev pub IsCreated : Option (List ℕ) → Status → Files → (Name → Option (List ℕ) → Type 0) → Type 0
 IsCreated (Some file) Exists now may = Unit {0}
 IsCreated None Done now may = HasNewDatabase now may
 IsCreated None SinkFault now may = HasNewDatabase now may
-IsCreated log AttributesFault now may = Unit {0}
-IsCreated log NoMemory now may = Unit {0}
 IsCreated log (VolumeFault Logs) now may = Unit {0}
 IsCreated log _ now may = ⊥
 

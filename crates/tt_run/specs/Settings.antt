@@ -1,6 +1,6 @@
 -- What the attributes of a database lead to.
-use Rattle.std.specs.Prelude.{◌≡◌, ◌⊎◌, ℕ, List, Result, Ok, Err}
-use Rattle.tt_set.specs.Attributes.{Says}
+use Rattle.std.specs.Prelude.{◌≡◌, ◌⊎◌, ℕ, List, Option, Some, None, Result, Ok, Err}
+use Rattle.tt_set.specs.Attributes.{AreInRange, Says}
 use Rattle.tt_set.specs.declared.settings.Settings.{Settings}
 use Rattle.tt_run.specs.declared.status.Status.{Status}
 use Rattle.tt_run.specs.declared.status.Status.TheVariants.{AttributesFault, BadAttribute, NoMemory}
@@ -34,6 +34,22 @@ IsReadEnd (Err AttributesFault) fault = fault
 IsReadEnd (Err (BadAttribute name)) fault = Unit {0}
 IsReadEnd (Err NoMemory) fault = Unit {0}
 IsReadEnd (Err _) fault = ⊥
+
+-- the attributes give these settings; any in range may be theirs, where they don't tell their text
+abbrev pub AreSettings : Option (List ℕ) → Settings → Type 0
+AreSettings None settings = AreInRange settings
+AreSettings (Some text) settings = Says text (Ok settings)
+
+-- a run ended in its attributes
+abbrev pub EndedInAttributes : Status → Type 0
+EndedInAttributes AttributesFault = Unit {0}
+EndedInAttributes NoMemory = Unit {0}
+EndedInAttributes (BadAttribute name) = Unit {0}
+EndedInAttributes _ = ⊥
+
+-- a run ended in its attributes, or they give settings of which this is so
+abbrev pub ForSettings : Option (List ℕ) → Status → (Settings → Type 0) → Type 0
+ForSettings attributes status P = EndedInAttributes status ⊎ ((settings : Settings) × AreSettings attributes settings × P settings)
 
 -- a run that ended so had attributes that aren't right
 abbrev pub IsBadSo : List ℕ → Status → Type 0

@@ -18,7 +18,7 @@ ghost use Rattle.tt_run.specs.Loops.{HasEnded, IsEnd, IsLine, IsNext, IsRunEnd, 
 ghost use Rattle.tt_run.specs.Openings.{EndedEarly, HasNoPlace, IsBeforeLines, IsCreateEnd, IsCreateText, IsCreated, IsFaultOf, IsOpened, IsScriptRunEnd, LeavesNoOther, LeavesNoLog, OthersStay, mark_place};
 ghost use Rattle.tt_run.specs.Replies.{text_of};
 ghost use Rattle.tt_run.specs.Runs.{IsRun, Moment, IsRunFrom};
-ghost use Rattle.tt_run.specs.Settings.{IsBadSo, IsRefusedFor};
+ghost use Rattle.tt_run.specs.Settings.{EndedInAttributes, ForSettings, IsBadSo, IsRefusedFor};
 ghost use Rattle.tt_run.specs.Words.{form_of};
 
 use crate::attributes::settings_of;
@@ -84,9 +84,8 @@ pub fn run<
     ensures create_script { form_of (map string_bytes words.now) ≡ Some Action.Create → script.new ≡ script.old }
 
     // `create DIR`, over a volume that tells its files.
-    ensures created { (text : List ℕ) (settings : Settings) → L.told → form_of (map string_bytes words.now) ≡ Some Action.Create
-        → A.left attributes.old ≡ Some text → Says text (Ok settings)
-        → IsCreated (L.now logs.old (Name.Log 0)) result (L.now logs.new) (L.may logs.new) }
+    ensures created { L.told → form_of (map string_bytes words.now) ≡ Some Action.Create → EndedInAttributes result
+        ⊎ IsCreated (L.now logs.old (Name.Log 0)) result (L.now logs.new) (L.may logs.new) }
 
     // A database that is there stays as it is, whatever failed.
     ensures there { (file : List ℕ) → L.told → form_of (map string_bytes words.now) ≡ Some Action.Create
@@ -99,8 +98,8 @@ pub fn run<
         → IsCreateText (K.given sink.old) (K.given sink.new) result (sink.new ≡ sink.old) }
 
     // `run DIR`, over a volume that tells its files: how the database was opened.
-    ensures opened { (text : List ℕ) (settings : Settings) → L.told → form_of (map string_bytes words.now) ≡ Some Action.Run
-        → A.left attributes.old ≡ Some text → Says text (Ok settings) → IsOpened settings (database (L.now logs.old)) result }
+    ensures opened { L.told → form_of (map string_bytes words.now) ≡ Some Action.Run
+        → ForSettings (A.left attributes.old) result (λ settings. IsOpened settings (database (L.now logs.old)) result) }
 
     // A database that can't be opened stays as it is, whatever failed.
     ensures refused { (refusal : OpenRefusal) → L.told → form_of (map string_bytes words.now) ≡ Some Action.Run
@@ -109,14 +108,14 @@ pub fn run<
 
     // The lines that were answered, what was written, what the log files have between two lines and at the end, and what a crash
     // leaves, all of one run of the model from the state that opening found; unless it ended before the lines.
-    ensures ran { (bytes text : List ℕ) (settings : Settings) (found : Found) → L.told
-        → form_of (map string_bytes words.now) ≡ Some Action.Run → S.left script.old ≡ Some bytes
-        → A.left attributes.old ≡ Some text → Says text (Ok settings) → database (L.now logs.old) ≡ Ok found
-        → EndedEarly result settings found ((script.new ≡ script.old) × (sink.new ≡ sink.old)
+    ensures ran { (bytes : List ℕ) (found : Found) → L.told → form_of (map string_bytes words.now) ≡ Some Action.Run
+        → S.left script.old ≡ Some bytes → database (L.now logs.old) ≡ Ok found
+        → ForSettings (A.left attributes.old) result (λ settings.
+        EndedEarly result settings found ((script.new ≡ script.old) × (sink.new ≡ sink.old)
         × ChangesFrom found.end.file (L.now logs.old) (L.now logs.new) (L.may logs.old) (L.may logs.new))
         (LogsAreSettled (L.now logs.old) (L.may logs.old)) (L.now logs.old) (L.may logs.new)
         ⊎ IsRun L.now L.may (LogsAreSettled (L.now logs.old) (L.may logs.old)) bytes (S.left script.new)
-        (begun_over settings (L.now logs.old) found) (K.given sink.old) (K.given sink.new) result logs.old logs.new }
+        (begun_over settings (L.now logs.old) found) (K.given sink.old) (K.given sink.new) result logs.old logs.new) }
 
     // Where no count rose, a script of at most 2^30 bytes is done to its end, and a database is made where there is none. Want of
     // memory alone may keep both from beginning.

@@ -1,15 +1,14 @@
-use Rattle.std.proofs.Common.{◌≡◌, ◌⊎◌, ◌∙◌, inl, refl, sym, subst, Ok, Err, Result}
+use Rattle.std.proofs.Common.{◌≡◌, ◌∙◌, inl, inr, refl, sym, subst, Ok, Err, Result}
 use Rattle.tt_engine.specs.Prefixes.{LogsAreSettled}
 use Rattle.tt_engine.specs.LogTrail.{ChangesFrom}
 use Rattle.tt_engine.specs.Starts.{begun_over}
-use Rattle.tt_run.specs.Runs.{IsRun}
 use Rattle.tt_model.specs.Found.{Found}
 use Rattle.tt_set.specs.declared.settings.Settings.{Settings}
 use Rattle.tt_engine.specs.declared.refusal.OpenRefusal.{OpenRefusal}
 use Rattle.tt_run.proofs.OpenLemmas.{completes, none_left, out_before, script_run_cause}
-use Rattle.tt_run.proofs.SettingsLemmas.{ended_bad, ended_cause, ended_complete, ended_created, ended_early, ended_not_usage, ended_opened, ended_so, ended_text, said_not_bad, same_settings}
+use Rattle.tt_run.proofs.SettingsLemmas.{are_settings, ended_bad, ended_cause, ended_complete, ended_in_attributes, ended_not_usage, ended_so, ended_text, said_not_bad, same_settings}
 use Rattle.std.specs.Prelude.{IsSome}
-use Rattle.tt_run.specs.Openings.{EndedEarly, IsOpened, mark_place}
+use Rattle.tt_run.specs.Openings.{IsOpened, mark_place}
 use Rattle.tt_run.proofs.top_call.run.Goals as goal
 
 pub returns-in-Err-clause-usage : goal.returns-in-Err-clause-usage
@@ -25,7 +24,7 @@ pub returns-in-Err-clause-bad_attribute : goal.returns-in-Err-clause-bad_attribu
 returns-in-Err-clause-bad_attribute g c = λ text name form told says. ended_bad c.in-Err.status _ name (ended_so c.in-Err.status _ c.in-Err.ensures.cause) (c.in-Err.ensures.only text (Err name) told says)
 
 pub returns-in-Err-clause-created : goal.returns-in-Err-clause-created
-returns-in-Err-clause-created g c = λ text settings known form told says. ended_created c.in-Err.status _ settings _ _ _ (ended_so c.in-Err.status _ c.in-Err.ensures.cause) (c.in-Err.ensures.only text (Ok settings) told says)
+returns-in-Err-clause-created g c = λ told form. inl (ended_in_attributes c.in-Err.status _ (ended_so c.in-Err.status _ c.in-Err.ensures.cause))
 
 pub returns-in-Err-clause-no_other : goal.returns-in-Err-clause-no_other
 returns-in-Err-clause-no_other g c = λ told form none. none_left (g.L.Volume.may c.args.logs.now) none
@@ -34,10 +33,10 @@ pub returns-in-Err-clause-create_text : goal.returns-in-Err-clause-create_text
 returns-in-Err-clause-create_text g c = λ form. ended_text c.in-Err.status _ _ (g.K.Sink.given c.args.sink.now) (ended_so c.in-Err.status _ c.in-Err.ensures.cause) refl
 
 pub returns-in-Err-clause-opened : goal.returns-in-Err-clause-opened
-returns-in-Err-clause-opened g c = λ text settings known form told says. ended_opened c.in-Err.status _ settings _ (ended_so c.in-Err.status _ c.in-Err.ensures.cause) (c.in-Err.ensures.only text (Ok settings) told says)
+returns-in-Err-clause-opened g c = λ told form. inl (ended_in_attributes c.in-Err.status _ (ended_so c.in-Err.status _ c.in-Err.ensures.cause))
 
 pub returns-in-Err-clause-ran : goal.returns-in-Err-clause-ran
-returns-in-Err-clause-ran g c = λ bytes text settings found known form script told says is. inl (ended_early c.in-Err.status _ _ _ settings found _ _ (ended_so c.in-Err.status _ c.in-Err.ensures.cause) (c.in-Err.ensures.only text (Ok settings) told says))
+returns-in-Err-clause-ran g c = λ bytes found told form script is. inl (ended_in_attributes c.in-Err.status _ (ended_so c.in-Err.status _ c.in-Err.ensures.cause))
 
 pub returns-in-Err-clause-complete_run : goal.returns-in-Err-clause-complete_run
 returns-in-Err-clause-complete_run g c = λ bytes text settings found known form script told says is place short no_script no_attributes no_sink no_logs.
@@ -56,13 +55,14 @@ returns-in-Create-clause-bad_attribute g c = λ text name form told says. absurd
 pub returns-in-Run-clause-bad_attribute : goal.returns-in-Run-clause-bad_attribute
 returns-in-Run-clause-bad_attribute g c = λ text name form told says. absurd (said_not_bad name c.in-Ok.settings (c.in-Ok.ensures.only text (Err name) told says))
 
+pub returns-in-Run-clause-opened : goal.returns-in-Run-clause-opened
+returns-in-Run-clause-opened g c = λ told form. inr (c.in-Ok.settings, are_settings (g.A.Source.left c.args.attributes.now) c.in-Ok.settings c.in-Ok.ensures.range c.in-Ok.ensures.says, c.run_script.ensures.opened told)
+
 pub returns-in-Run-clause-ran : goal.returns-in-Run-clause-ran
-returns-in-Run-clause-ran g c = λ bytes text settings found known form script told says is.
-    let same = same_settings settings c.in-Ok.settings (c.in-Ok.ensures.only text (Ok settings) told says) in
-    let settled : Type 0 = LogsAreSettled (g.L.Volume.now c.args.logs.now) (g.L.Volume.may c.args.logs.now) in
-    subst (λ (s : Settings). EndedEarly c.run_script.result s found ((c.run_script.new.script ≡ c.args.script.now) × (c.run_script.new.sink ≡ c.args.sink.now) × ChangesFrom found.end.file (g.L.Volume.now c.args.logs.now) (g.L.Volume.now c.run_script.new.logs) (g.L.Volume.may c.args.logs.now) (g.L.Volume.may c.run_script.new.logs)) settled (g.L.Volume.now c.args.logs.now) (g.L.Volume.may c.run_script.new.logs)
-    ⊎ IsRun g.L.Volume.now g.L.Volume.may settled bytes (g.S.Source.left c.run_script.new.script) (begun_over s (g.L.Volume.now c.args.logs.now) found) (g.K.Sink.given c.args.sink.now) (g.K.Sink.given c.run_script.new.sink) c.run_script.result c.args.logs.now c.run_script.new.logs)
-    (sym same) (c.run_script.ensures.ran bytes found known script is)
+returns-in-Run-clause-ran g c = λ bytes found told form script is. inr (c.in-Ok.settings, are_settings (g.A.Source.left c.args.attributes.now) c.in-Ok.settings c.in-Ok.ensures.range c.in-Ok.ensures.says, c.run_script.ensures.ran bytes found told script is)
+
+pub returns-in-Create-clause-created : goal.returns-in-Create-clause-created
+returns-in-Create-clause-created g c = λ told form. inr (c.create.ensures.created told)
 
 pub returns-in-Run-clause-complete_run : goal.returns-in-Run-clause-complete_run
 returns-in-Run-clause-complete_run g c = λ bytes text settings found known form script told says is place short no_script no_attributes no_sink no_logs.

@@ -40,7 +40,7 @@ pub returns-in-Err-Failed-clause-refused : goal.returns-in-Err-Failed-clause-ref
 returns-in-Err-Failed-clause-refused g c = λ refusal told is. let damaged = refused_log (g.L.Volume.now c.args.logs.now) refusal is in (refl, refl, c.start.ensures.damaged told damaged.refusal damaged.is)
 
 pub returns-in-Err-LogOut-clause-opened : goal.returns-in-Err-LogOut-clause-opened
-returns-in-Err-LogOut-clause-opened g c = λ told. let (found, is, none) = subst (λ (e : OpenRefusal). IsRefusedSo c.args.settings.now (g.L.Volume.now c.args.logs.now) e) c.in-Err-LogOut.field-0-is (c.in-Err-LogOut.ensures.refused told) in opened_out c.args.settings.now (g.L.Volume.now c.args.logs.now) found is
+returns-in-Err-LogOut-clause-opened g c = λ told. let (found, is, none) = subst (λ (e : OpenRefusal). IsRefusedSo c.args.settings.now (g.L.Volume.now c.args.logs.now) e) c.in-Err-LogOut.field-0-is (c.in-Err-LogOut.ensures.refused told) in opened_out c.args.settings.now (g.L.Volume.now c.args.logs.now) found is none
 
 pub returns-in-Err-LogOut-clause-ran : goal.returns-in-Err-LogOut-clause-ran
 returns-in-Err-LogOut-clause-ran g c = λ bytes found told is_script is.
