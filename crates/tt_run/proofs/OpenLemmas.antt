@@ -1,6 +1,7 @@
 -- How a run begins.
 use Rattle.std.proofs.Common.{◌≡◌, ◌⊎◌, inl, inr, ◌^◌, ◌+◌, ◌<◌, ◌≤◌, ◌∙◌, ℕ, [], List, length, Option, Some, None, Result, Ok, Err, refl, sym, ap, ap₂, subst, arith}
-use Rattle.std.specs.Prelude.{IsSome, option_map}
+use Rattle.std.specs.Prelude.{IfSome, IsSome, option_map, take}
+use Rattle.tt_flow.specs.Script.{ended_lines, script_most}
 use Rattle.tt_disk.specs.Volume.{Keeps, size_of}
 use Rattle.tt_disk.specs.declared.volume.Name.TheVariants.{Log as LogFile}
 use Rattle.tt_gate.specs.Standing.{LeavesAtMost}
@@ -171,7 +172,7 @@ unfolding begun with_entry
 begun_found settings files found = refl
 
 -- a run, as it is seen from before the database was opened
-pub run_over : {V : Type 0} (now : V → Files) (may : V → Outcomes) (P Q : Type 0) (script : List ℕ) (left : Option (List ℕ)) (start : State) (before after : Option (List ℕ)) (status : Status) (old opened new : V) → IsSinceOpening start → (Q → P)
+pub run_over : {V : Type 0} (now : V → Files) (may : V → Outcomes) (P Q : Type 0) (script left : Option (List ℕ)) (start : State) (before after : Option (List ℕ)) (status : Status) (old opened new : V) → IsSinceOpening start → (Q → P)
     → (IsStill start → Keeps (now old) (now opened) (may old) (may opened)) → ChangesFrom start.found.end.file (now old) (now opened) (may old) (may opened)
     → IsRunFrom now may P script left (record { state = start; logs = opened }) before after status new → IsRun now may Q script left start before after status old new
 run_over now may P Q script left start before after status old opened new since settled still opening ran =
@@ -189,12 +190,12 @@ none_there None none some = let bad : ⊥ = cc in bad
 none_there (Some at) none some = let bad : ⊥ = cc in bad
 
 -- a run ends well where nothing failed
-pub completes : {V : Type 0} (now : V → Files) (may : V → Outcomes) (bytes : List ℕ) (left : Option (List ℕ)) (settings : Settings) (found : Found) (start : State) (before after : Option (List ℕ)) (status : Status) (settled untouched : Type 0) (old new : V)
-    (script attributes sink logs images backups : Type 0) → EndedEarly status settings found untouched settled (now old) (may new) ⊎ IsRun now may settled bytes left start before after status old new → IsOpened settings (Ok found) status
+pub completes : {V : Type 0} (now : V → Files) (may : V → Outcomes) (told : Option (List ℕ)) (bytes : List ℕ) (left : Option (List ℕ)) (settings : Settings) (found : Found) (start : State) (before after : Option (List ℕ)) (status : Status) (settled untouched : Type 0) (old new : V)
+    (script attributes sink logs images backups : Type 0) → told ≡ Some bytes → EndedEarly status settings found untouched settled (now old) (may new) ⊎ IsRun now may settled told left start before after status old new → IsOpened settings (Ok found) status
     → IsFaultOf status script attributes sink logs images backups → IsSome (mark_place settings found) → length bytes ≤ 2 ^ 30 → ¬ script → ¬ attributes → ¬ sink → ¬ logs → (status ≡ Done) ⊎ (status ≡ NoMemory)
-completes now may bytes left settings found start before after status settled untouched old new script attributes sink logs images backups ran opens fault place short no_script no_attributes no_sink no_logs = by status ran opens fault
+completes now may told bytes left settings found start before after status settled untouched old new script attributes sink logs images backups is ran opens fault place short no_script no_attributes no_sink no_logs = by status ran opens fault
   where
-    by : (status : Status) → EndedEarly status settings found untouched settled (now old) (may new) ⊎ IsRun now may settled bytes left start before after status old new → IsOpened settings (Ok found) status → IsFaultOf status script attributes sink logs images backups → (status ≡ Done) ⊎ (status ≡ NoMemory)
+    by : (status : Status) → EndedEarly status settings found untouched settled (now old) (may new) ⊎ IsRun now may settled told left start before after status old new → IsOpened settings (Ok found) status → IsFaultOf status script attributes sink logs images backups → (status ≡ Done) ⊎ (status ≡ NoMemory)
     by Done ran opens fault = inl refl
     by NoMemory ran opens fault = inr refl
     by ScriptFault ran opens fault = absurd (no_script fault)
@@ -204,7 +205,7 @@ completes now may bytes left settings found start before after status settled un
     by LogOut (inl none) opens fault = absurd (none_there (mark_place settings found) none place)
     by LogOut (inr run) opens fault = absurd run.lines.run.ends.0
     by ScriptTooLong (inl early) opens fault = absurd early
-    by ScriptTooLong (inr run) opens fault = let long = run.lines.run.ends.0.0 in absurd (omega (arith, long, short))
+    by ScriptTooLong (inr run) opens fault = let long : (script_most < length bytes) × (ended_lines (take script_most bytes) ≡ run.lines.run.lines) = subst (λ (o : Option (List ℕ)). IfSome o (λ b. (script_most < length b) × (ended_lines (take script_most b) ≡ run.lines.run.lines))) is run.lines.run.ends.0 in absurd (let over = long.0 in omega (arith, over, short))
     by _ ran opens fault = absurd opens
 
 pub script_run_cause : (status : Status) (script sink logs : Type 0) → IsScriptRunEnd status script sink logs → IsFaultOf status script ⊥ sink logs ⊥ ⊥

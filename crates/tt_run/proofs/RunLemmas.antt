@@ -1,6 +1,6 @@
 -- One more line of a run.
 use Rattle.std.proofs.Common.{◌≡◌, ◌⊎◌, inl, inr, ℕ, Bool, true, false, cond, List, [], ◌∷◌, ◌++◌, arith, take, map, Option, Some, None, Ok, refl, sym, ap, ◌∙◌, subst, append_assoc, append-nil}
-use Rattle.std.specs.Prelude.{not, ◌↔◌}
+use Rattle.std.specs.Prelude.{IfSome, not, ◌↔◌}
 use Rattle.std.proofs.lemmas.List.{map-append}
 use Rattle.std.proofs.lemmas.Grind.{flat_map-append}
 use Rattle.std.specs.Io.KnownBytes.{Appends}
@@ -31,7 +31,7 @@ use Rattle.tt_run.specs.declared.status.Status.TheVariants.{Done, ScriptFault, S
 use Rattle.tt_run.specs.declared.top_call.NextLine.TheVariants.{Asks, Skipped}
 use Rattle.tt_run.specs.Replies.{text_of}
 use Rattle.tt_run.specs.Requests.{IsRequest, AreRequests, is_answered}
-use Rattle.tt_run.specs.Loops.{HasEnded, IsNext, IsRunning, WasSettled}
+use Rattle.tt_run.specs.Loops.{HasEnded, IsGivenOf, IsNext, IsRunning, WasSettled}
 use Rattle.tt_run.specs.Runs.{AreAnswered, AreLinesDone, AreLinesBetween, HasForced, HasLeft, IsLineBetween, IsRunFrom, Moment, UnlessLogsFailed, texts}
 
 abbrev Answered : Type 0
@@ -119,15 +119,20 @@ appended_none (Some xs) = sym (append-nil xs)
 
 -- the next line is skipped, or asks for something
 
-pub skipped_next : (script : List ℕ) (given : List (Option (List ℕ))) (seen line : List ℕ) (reader : LineReader) (left : Option (List ℕ)) → seen ≡ line → is_skipped seen ≡ true → HasGivenTold script (given ++ Some line ∷ []) reader left
+-- what is so of each script is so of one that tells its bytes
+pub told_then : (script : Option (List ℕ)) (P Q : List ℕ → Type 0) → ((bytes : List ℕ) → P bytes → Q bytes) → IfSome script P → IfSome script Q
+told_then None P Q f p = tt
+told_then (Some bytes) P Q f p = f bytes p
+
+pub skipped_next : (script : Option (List ℕ)) (given : List (Option (List ℕ))) (seen line : List ℕ) (reader : LineReader) (left : Option (List ℕ)) → seen ≡ line → is_skipped seen ≡ true → IsGivenOf script (given ++ Some line ∷ []) reader left
     → IsNext script given (Ok Skipped) reader left
 skipped_next script given seen line reader left same is read = (Some line, ap not (ap is_skipped (sym same) ∙ is), read)
 
 pub asked_not_skipped : (line : List ℕ) (request : Request) (o : Option Request) → o ≡ Some request → (o ≡ None) ↔ (is_skipped line ≡ true) → ¬ (is_skipped line ≡ true)
 asked_not_skipped line request o is skipped so = let none = skipped.1 so in let bad : ⊥ = cc in bad
 
-pub asked_next : (script : List ℕ) (given : List (Option (List ℕ))) (seen line : List ℕ) (request : Request) (reader : LineReader) (left : Option (List ℕ)) → seen ≡ line → ¬ (is_skipped seen ≡ true) → IsRequest (Some seen) request
-    → HasGivenTold script (given ++ Some line ∷ []) reader left → IsNext script given (Ok (Asks request)) reader left
+pub asked_next : (script : Option (List ℕ)) (given : List (Option (List ℕ))) (seen line : List ℕ) (request : Request) (reader : LineReader) (left : Option (List ℕ)) → seen ≡ line → ¬ (is_skipped seen ≡ true) → IsRequest (Some seen) request
+    → IsGivenOf script (given ++ Some line ∷ []) reader left → IsNext script given (Ok (Asks request)) reader left
 asked_next script given seen line request reader left same not_skipped asks read = (
   Some line,
   ap (λ l. not (is_skipped l)) (sym same) ∙ ap not (unskipped (is_skipped seen) not_skipped),
@@ -170,7 +175,7 @@ lines_under now may P Q moment after (x ∷ answered) settled (next, first, more
   lines_under now may P Q next after answered settled more,
 )
 
-pub run_under : {V : Type 0} (now : V → Files) (may : V → Outcomes) (P Q : Type 0) (script : List ℕ) (left : Option (List ℕ)) (start : Moment V) (before after : Option (List ℕ)) (status : Status) (new : V) → (Q → P)
+pub run_under : {V : Type 0} (now : V → Files) (may : V → Outcomes) (P Q : Type 0) (script left : Option (List ℕ)) (start : Moment V) (before after : Option (List ℕ)) (status : Status) (new : V) → (Q → P)
     → IsRunFrom now may P script left start before after status new → IsRunFrom now may Q script left start before after status new
 run_under now may P Q script left start before after status new settled ran = record {
   behind = ran.behind;
@@ -203,7 +208,7 @@ lines_change now may settled moment after (x ∷ answered) (next, first, more) =
     changes_then (write_position moment.state).file (write_position next.state).file (now moment.logs) (now next.logs) (now after.logs) (may moment.logs) (may next.logs) (may after.logs) first.onward.file first.others
     (lines_change now may settled next after answered more)
 
-pub run_changes : {V : Type 0} (now : V → Files) (may : V → Outcomes) (settled : Type 0) (script : List ℕ) (left : Option (List ℕ)) (start : State) (before after : Option (List ℕ)) (status : Status) (old opened new : V) → IsSinceOpening start
+pub run_changes : {V : Type 0} (now : V → Files) (may : V → Outcomes) (settled : Type 0) (script left : Option (List ℕ)) (start : State) (before after : Option (List ℕ)) (status : Status) (old opened new : V) → IsSinceOpening start
     → ChangesFrom start.found.end.file (now old) (now opened) (may old) (may opened) → IsRunFrom now may settled script left (record { state = start; logs = opened }) before after status new
     → ChangesFrom start.found.end.file (now old) (now new) (may old) (may new)
 run_changes now may settled script left start before after status old opened new since opening ran =
@@ -223,7 +228,7 @@ lines_still now may settled moment after (x ∷ answered) since still (next, fir
     lines_still now may settled next after answered later still more ∙ first.quiet quiet.1
 
 -- a run up to such a state changed no file
-pub run_still : {V : Type 0} (now : V → Files) (may : V → Outcomes) (settled : Type 0) (script : List ℕ) (left : Option (List ℕ)) (start : State) (before after : Option (List ℕ)) (status : Status) (old opened new : V) → IsSinceOpening start
+pub run_still : {V : Type 0} (now : V → Files) (may : V → Outcomes) (settled : Type 0) (script left : Option (List ℕ)) (start : State) (before after : Option (List ℕ)) (status : Status) (old opened new : V) → IsSinceOpening start
     → (IsStill start → Keeps (now old) (now opened) (may old) (may opened)) → (ran : IsRunFrom now may settled script left (record { state = start; logs = opened }) before after status new) → IsStill ran.last
     → UnlessLogsFailed status (Keeps (now old) (now new) (may old) (may new))
 run_still {V} now may settled script left start before after status old opened new since unchanged ran still = by status ran.logs
@@ -244,24 +249,20 @@ run_still {V} now may settled script left start before after status old opened n
 -- ---- one line
 
 -- a run that goes on behind a line that was skipped
-pub goes_past : {V : Type 0} (now : V → Files) (may : V → Outcomes) (first : Engine) (start : Moment V) (script left : List ℕ) (rest before after : Option (List ℕ)) (old new : LineReader) (e : Engine) (moment : Moment V)
+pub goes_past : {V : Type 0} (now : V → Files) (may : V → Outcomes) (first : Engine) (start : Moment V) (script left rest before after : Option (List ℕ)) (old new : LineReader) (e : Engine) (moment : Moment V)
     (run : IsRunning now may first start script left before after old e moment) → IsNext script run.lines (Ok Skipped) new rest
-    → (others : List ℕ) × (rest ≡ Some others) × IsRunning now may first start script others before after new e moment
-goes_past now may first start script left rest before after old new e moment run (line, skipped, (more, is_left, given)) = (
-  more,
-  is_left,
-  record {
-    lines = run.lines ++ line ∷ [];
-    replies = run.replies;
-    given = given;
-    answers = skipped_more now may (WasSettled now may first start) start moment run.lines run.replies line run.answers skipped;
-    texts_written = run.texts_written;
-    stands = run.stands;
-    kept = run.kept;
-    holds = run.holds;
-    begins = run.begins;
-  },
-)
+    → IsRunning now may first start script rest before after new e moment
+goes_past now may first start script left rest before after old new e moment run (line, skipped, given) = record {
+  lines = run.lines ++ line ∷ [];
+  replies = run.replies;
+  given = given;
+  answers = skipped_more now may (WasSettled now may first start) start moment run.lines run.replies line run.answers skipped;
+  texts_written = run.texts_written;
+  stands = run.stands;
+  kept = run.kept;
+  holds = run.holds;
+  begins = run.begins;
+}
 
 -- how the engine and the log files stand behind a line, as it is seen from the line's own beginning
 pub record HasMoved {V : Type 0} (now : V → Files) (may : V → Outcomes) (old : Engine) (moment : Moment V) (e : Engine) (line : Request × Reply) (next : Moment V) : Type 0 where
@@ -284,31 +285,28 @@ line_between now may first start old e moment next line settled moved = record {
 }
 
 -- a run that goes on behind a line
-pub goes_on : {V : Type 0} (now : V → Files) (may : V → Outcomes) (first : Engine) (start : Moment V) (script left : List ℕ) (rest before middle after : Option (List ℕ)) (old new : LineReader) (e e' : Engine) (moment next : Moment V) (request : Request) (reply : Reply)
+pub goes_on : {V : Type 0} (now : V → Files) (may : V → Outcomes) (first : Engine) (start : Moment V) (script left rest before middle after : Option (List ℕ)) (old new : LineReader) (e e' : Engine) (moment next : Moment V) (request : Request) (reply : Reply)
     (run : IsRunning now may first start script left before middle old e moment) → IsNext script run.lines (Ok (Asks request)) new rest → HasMoved now may e moment e' (request, reply) next → Appends middle after (text_of reply)
-    → (others : List ℕ) × (rest ≡ Some others) × IsRunning now may first start script others before after new e' next
-goes_on now may first start script left rest before middle after old new e e' moment next request reply run (line, is, asks, (more, is_left, given)) moved put =
-    let leads = line_between now may first start e e' moment next (request, reply) run.kept moved in (
-      more,
-      is_left,
-      record {
-        lines = run.lines ++ line ∷ [];
-        replies = run.replies ++ (request, reply) ∷ [];
-        given = given;
-        answers = answered_more now may (WasSettled now may first start) start moment next run.lines run.replies line request reply run.answers is asks leads;
-        texts_written = subst (λ (t : List ℕ). Appends before after t) (sym (texts-last run.replies (request, reply))) (appended_twice before middle after (texts run.replies) (text_of reply) run.texts_written put);
-        stands = moved.stands;
-        kept = λ w. moved.kept (run.kept w);
-        holds = leads.holds;
-        begins = run.begins;
-      },
-    )
+    → IsRunning now may first start script rest before after new e' next
+goes_on now may first start script left rest before middle after old new e e' moment next request reply run (line, is, asks, given) moved put =
+    let leads = line_between now may first start e e' moment next (request, reply) run.kept moved in
+    record {
+      lines = run.lines ++ line ∷ [];
+      replies = run.replies ++ (request, reply) ∷ [];
+      given = given;
+      answers = answered_more now may (WasSettled now may first start) start moment next run.lines run.replies line request reply run.answers is asks leads;
+      texts_written = subst (λ (t : List ℕ). Appends before after t) (sym (texts-last run.replies (request, reply))) (appended_twice before middle after (texts run.replies) (text_of reply) run.texts_written put);
+      stands = moved.stands;
+      kept = λ w. moved.kept (run.kept w);
+      holds = leads.holds;
+      begins = run.begins;
+    }
 
 -- a run whose sink failed behind a line
-pub failed_put : {V : Type 0} (now : V → Files) (may : V → Outcomes) (first : Engine) (start : Moment V) (script left : List ℕ) (rest before middle after : Option (List ℕ)) (old new : LineReader) (e e' : Engine) (moment next : Moment V) (request : Request) (reply : Reply) (n : ℕ)
+pub failed_put : {V : Type 0} (now : V → Files) (may : V → Outcomes) (first : Engine) (start : Moment V) (script left rest before middle after : Option (List ℕ)) (old new : LineReader) (e e' : Engine) (moment next : Moment V) (request : Request) (reply : Reply) (n : ℕ)
     (run : IsRunning now may first start script left before middle old e moment) → IsNext script run.lines (Ok (Asks request)) new rest → HasMoved now may e moment e' (request, reply) next
     → Appends middle after (take n (text_of reply)) → IsRunFrom now may (WasSettled now may first start) script rest start before after SinkFault next.logs
-failed_put now may first start script left rest before middle after old new e e' moment next request reply n run (line, is, asks, (more, is_left, given)) moved put =
+failed_put now may first start script left rest before middle after old new e e' moment next request reply n run (line, is, asks, given) moved put =
     let leads = line_between now may first start e e' moment next (request, reply) run.kept moved in
     record {
       behind = next;
@@ -318,7 +316,7 @@ failed_put now may first start script left rest before middle after old new e e'
         lines = run.lines ++ line ∷ [];
         replies = run.replies ++ (request, reply) ∷ [];
         answers = answered_more now may (WasSettled now may first start) start moment next run.lines run.replies line request reply run.answers is asks leads;
-        ends = (first_lines script more (run.lines ++ line ∷ []) new given, refl);
+        ends = (told_then script (λ bytes. HasGivenTold bytes (run.lines ++ line ∷ []) new rest) (λ bytes. (more : List (Option (List ℕ))) × (script_lines bytes ≡ (run.lines ++ line ∷ []) ++ more)) (λ bytes g. first_lines bytes g.0 (run.lines ++ line ∷ []) new g.2) given, refl);
         texts_written = (run.replies, (request, reply), n, refl, appended_twice before middle after (texts run.replies) (take n (text_of reply)) run.texts_written put);
       };
       onward = same_onward next.state;
@@ -327,12 +325,11 @@ failed_put now may first start script left rest before middle after old new e e'
     }
 
 -- a run whose log files failed in a line
-pub failed_line : {V : Type 0} (now : V → Files) (may : V → Outcomes) (first : Engine) (start : Moment V) (script left : List ℕ) (rest before after : Option (List ℕ)) (old new : LineReader) (e : Engine) (moment : Moment V) (logs : V) (request : Request)
+pub failed_line : {V : Type 0} (now : V → Files) (may : V → Outcomes) (first : Engine) (start : Moment V) (script left rest before after : Option (List ℕ)) (old new : LineReader) (e : Engine) (moment : Moment V) (logs : V) (request : Request)
     (run : IsRunning now may first start script left before after old e moment) → IsNext script run.lines (Ok (Asks request)) new rest → CallsLog request moment.state
     → IsOnward moment.state (answer request moment.state).1 → ChangesFrom (write_position moment.state).file (now moment.logs) (now logs) (may moment.logs) (may logs)
     → (LeavesForced e.log (now moment.logs) (may moment.logs) → LeavesLine request moment.state (may logs)) → IsRunFrom now may (WasSettled now may first start) script rest start before after (VolumeFault Logs) logs
-failed_line now may first start script left rest before after old new e moment logs request run (line, is, asks, (more, is_left, given)) calls onward others_stay leaves =
-    let (others, split) = first_lines script more (run.lines ++ line ∷ []) new given in
+failed_line now may first start script left rest before after old new e moment logs request run (line, is, asks, given) calls onward others_stay leaves =
     record {
       behind = moment;
       last = (answer request moment.state).1;
@@ -341,7 +338,16 @@ failed_line now may first start script left rest before after old new e moment l
         lines = run.lines;
         replies = run.replies;
         answers = run.answers;
-        ends = inr (record { line = line; more = others; request = request; next = split ∙ append_assoc run.lines (line ∷ []) others; is_one = is; asks = asks; leads = refl; calls = calls });
+        ends = inr (record {
+          line = line;
+          request = request;
+          next = told_then script (λ bytes. HasGivenTold bytes (run.lines ++ line ∷ []) new rest) (λ bytes. (more : List (Option (List ℕ))) × (script_lines bytes ≡ run.lines ++ line ∷ more))
+              (λ bytes g. let (others, split) = first_lines bytes g.0 (run.lines ++ line ∷ []) new g.2 in (others, split ∙ append_assoc run.lines (line ∷ []) others)) given;
+          is_one = is;
+          asks = asks;
+          leads = refl;
+          calls = calls;
+        });
         texts_written = run.texts_written;
       };
       onward = onward;
@@ -351,7 +357,7 @@ failed_line now may first start script left rest before after old new e moment l
 
 -- a run whose script failed, or is too long
 
-pub failed_script : {V : Type 0} (now : V → Files) (may : V → Outcomes) (first : Engine) (start : Moment V) (script left : List ℕ) (rest before after : Option (List ℕ)) (old : LineReader) (e : Engine) (moment : Moment V)
+pub failed_script : {V : Type 0} (now : V → Files) (may : V → Outcomes) (first : Engine) (start : Moment V) (script left rest before after : Option (List ℕ)) (old : LineReader) (e : Engine) (moment : Moment V)
     (run : IsRunning now may first start script left before after old e moment) → AreLinesDone script rest run.lines ScriptFault
     → IsRunFrom now may (WasSettled now may first start) script rest start before after ScriptFault moment.logs
 failed_script now may first start script left rest before after old e moment run done = record {
@@ -364,7 +370,7 @@ failed_script now may first start script left rest before after old e moment run
   logs = record { holds = run.holds; quiet = λ quiet. refl };
 }
 
-pub long_script : {V : Type 0} (now : V → Files) (may : V → Outcomes) (first : Engine) (start : Moment V) (script left : List ℕ) (rest before after : Option (List ℕ)) (old : LineReader) (e : Engine) (moment : Moment V)
+pub long_script : {V : Type 0} (now : V → Files) (may : V → Outcomes) (first : Engine) (start : Moment V) (script left rest before after : Option (List ℕ)) (old : LineReader) (e : Engine) (moment : Moment V)
     (run : IsRunning now may first start script left before after old e moment) → AreLinesDone script rest run.lines ScriptTooLong
     → IsRunFrom now may (WasSettled now may first start) script rest start before after ScriptTooLong moment.logs
 long_script now may first start script left rest before after old e moment run done = record {
@@ -378,7 +384,7 @@ long_script now may first start script left rest before after old e moment run d
 }
 
 -- a run at the end of its script
-pub ended_script : {V : Type 0} (now : V → Files) (may : V → Outcomes) (first : Engine) (start : Moment V) (script left : List ℕ) (rest before after : Option (List ℕ)) (old : LineReader) (e : Engine) (moment : Moment V) (new : V) (status : Status)
+pub ended_script : {V : Type 0} (now : V → Files) (may : V → Outcomes) (first : Engine) (start : Moment V) (script left rest before after : Option (List ℕ)) (old : LineReader) (e : Engine) (moment : Moment V) (new : V) (status : Status)
     (run : IsRunning now may first start script left before after old e moment) → AreLinesDone script rest run.lines Done → HasEnded now may e moment new status
     → ChangesFrom (write_position moment.state).file (now moment.logs) (now new) (may moment.logs) (may new) → IsRunFrom now may (WasSettled now may first start) script rest start before after status new
 ended_script now may first start script left rest before after old e moment new status run done ended others_stay = by status ended
@@ -405,12 +411,16 @@ ended_script now may first start script left rest before after old e moment new 
     by _ l = absurd l
 
 -- nothing was read yet
-pub begins_run : {V : Type 0} (now : V → Files) (may : V → Outcomes) (e : Engine) (start : Moment V) (script : List ℕ) (before : Option (List ℕ)) (reader : LineReader) → HasGiven script [] reader script → Stands e (now start.logs) start.state
+none_given : (script : Option (List ℕ)) (reader : LineReader) → ((bytes : List ℕ) → HasGiven bytes [] reader bytes) → IsGivenOf script [] reader script
+none_given None reader given = tt
+none_given (Some bytes) reader given = (bytes, refl, given bytes)
+
+pub begins_run : {V : Type 0} (now : V → Files) (may : V → Outcomes) (e : Engine) (start : Moment V) (script before : Option (List ℕ)) (reader : LineReader) → ((bytes : List ℕ) → HasGiven bytes [] reader bytes) → Stands e (now start.logs) start.state
     → HasForced now may (WasSettled now may e start) start → IsRunning now may e start script script before before reader e start
 begins_run now may e start script before reader given stands holds = record {
   lines = [];
   replies = [];
-  given = given;
+  given = none_given script reader given;
   answers = record { requests = tt; replies = refl };
   texts_written = appended_none before;
   stands = stands;

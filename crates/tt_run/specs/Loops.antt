@@ -1,8 +1,8 @@
 -- A run while it goes on: what one line more, and the end of the script, make of it.
-use Rattle.std.specs.Prelude.{◌≡◌, ℕ, List, [], ◌∷◌, ◌++◌, true, false, Option, Some, None, Result, Ok, Err}
+use Rattle.std.specs.Prelude.{◌≡◌, ℕ, List, [], ◌∷◌, ◌++◌, true, false, Option, Some, None, IfSome, Result, Ok, Err}
 use Rattle.std.specs.Io.KnownBytes.{Appends}
 use Rattle.tt_disk.specs.declared.volume.Name.{Name}
-use Rattle.tt_flow.specs.Reading.{HasGiven, HasGivenTold}
+use Rattle.tt_flow.specs.Reading.{HasGivenTold}
 use Rattle.tt_flow.specs.declared.lines.LineReader.{LineReader}
 use Rattle.tt_value.specs.declared.reply.Reply.{Reply}
 use Rattle.tt_value.specs.declared.reply.Stop.TheVariants.{Logs}
@@ -26,12 +26,16 @@ use Rattle.tt_run.specs.Runs.{AreAnswered, AreLinesDone, HasForced, IsLeft, Mome
 abbrev pub WasSettled : {V : Type 0} → (V → Files) → (V → Name → Option (List ℕ) → Type 0) → Engine → Moment V → Type 0
 WasSettled now may first start = LeavesForced first.log (now start.logs) (may start.logs)
 
+-- These lines were given of a script that tells its bytes.
+abbrev pub IsGivenOf : Option (List ℕ) → List (Option (List ℕ)) → LineReader → Option (List ℕ) → Type 0
+IsGivenOf script lines reader left = IfSome script (λ bytes. HasGivenTold bytes lines reader left)
+
 -- The lines of a script were answered so since the run began, the texts of the replies were written, and the run goes on from this
 -- moment. The engine stands for its state.
-pub record IsRunning {V : Type 0} (now : V → Files) (may : V → Name → Option (List ℕ) → Type 0) (first : Engine) (start : Moment V) (script left : List ℕ) (before after : Option (List ℕ)) (reader : LineReader) (e : Engine) (moment : Moment V) : Type 0 where
+pub record IsRunning {V : Type 0} (now : V → Files) (may : V → Name → Option (List ℕ) → Type 0) (first : Engine) (start : Moment V) (script left before after : Option (List ℕ)) (reader : LineReader) (e : Engine) (moment : Moment V) : Type 0 where
   pub lines : List (Option (List ℕ))
   pub replies : List (Request × Reply)
-  pub given : HasGiven script lines reader left
+  pub given : IsGivenOf script lines reader left
   pub answers : AreAnswered now may (WasSettled now may first start) start lines replies moment
   pub texts_written : Appends before after (texts replies)
   pub stands : Stands e (now moment.logs) moment.state
@@ -40,9 +44,9 @@ pub record IsRunning {V : Type 0} (now : V → Files) (may : V → Name → Opti
   pub begins : HasForced now may (WasSettled now may first start) start
 
 -- what came next in a script of which these lines were given: a line that is skipped, one that asks for something, or none any more
-abbrev pub IsNext : List ℕ → List (Option (List ℕ)) → Result NextLine Failed → LineReader → Option (List ℕ) → Type 0
-IsNext script given (Ok Skipped) reader left = (line : Option (List ℕ)) × (is_answered line ≡ false) × HasGivenTold script (given ++ line ∷ []) reader left
-IsNext script given (Ok (Asks request)) reader left = (line : Option (List ℕ)) × (is_answered line ≡ true) × IsRequest line request × HasGivenTold script (given ++ line ∷ []) reader left
+abbrev pub IsNext : Option (List ℕ) → List (Option (List ℕ)) → Result NextLine Failed → LineReader → Option (List ℕ) → Type 0
+IsNext script given (Ok Skipped) reader left = (line : Option (List ℕ)) × (is_answered line ≡ false) × IsGivenOf script (given ++ line ∷ []) reader left
+IsNext script given (Ok (Asks request)) reader left = (line : Option (List ℕ)) × (is_answered line ≡ true) × IsRequest line request × IsGivenOf script (given ++ line ∷ []) reader left
 IsNext script given (Ok End) reader left = AreLinesDone script left given Done
 IsNext script given (Ok TooLong) reader left = AreLinesDone script left given ScriptTooLong
 IsNext script given (Err failed) reader left = AreLinesDone script left given ScriptFault
@@ -76,7 +80,7 @@ HasEnded now may e moment new (VolumeFault Logs) = (WasSettled now may e moment 
 HasEnded now may e moment new _ = ⊥
 
 -- After one line more, which was answered or skipped, the run goes on, or has ended.
-abbrev pub IsStep : {V : Type 0} → (V → Files) → (V → Name → Option (List ℕ) → Type 0) → Engine → Moment V → List ℕ → Option (List ℕ) → Option (List ℕ) → Option (List ℕ) → LineReader → Engine → V → Option Status → Type 0
+abbrev pub IsStep : {V : Type 0} → (V → Files) → (V → Name → Option (List ℕ) → Type 0) → Engine → Moment V → Option (List ℕ) → Option (List ℕ) → Option (List ℕ) → Option (List ℕ) → LineReader → Engine → V → Option Status → Type 0
 IsStep now may first start script left before after reader e new None =
-    (state : State) × (rest : List ℕ) × (left ≡ Some rest) × IsRunning now may first start script rest before after reader e (record { state = state; logs = new })
+    (state : State) × IsRunning now may first start script left before after reader e (record { state = state; logs = new })
 IsStep now may first start script left before after reader e new (Some status) = IsRunFrom now may (WasSettled now may first start) script left start before after status new

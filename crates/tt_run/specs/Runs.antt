@@ -1,5 +1,5 @@
 -- What a run of a script writes, and what its lines leave of the log files.
-use Rattle.std.specs.Prelude.{◌≤◌, ◌≡◌, ◌<◌, ◌-◌, ◌⊎◌, ℕ, List, [], ◌∷◌, ◌++◌, length, take, map, flat_map, filter, true, Option, Some}
+use Rattle.std.specs.Prelude.{◌≤◌, ◌≡◌, ◌<◌, ◌-◌, ◌⊎◌, ℕ, List, [], ◌∷◌, ◌++◌, length, take, map, flat_map, filter, true, Option, Some, IfSome}
 use Rattle.std.specs.Io.KnownBytes.{Appends}
 use Rattle.tt_disk.specs.Volume.{Keeps}
 use Rattle.tt_disk.specs.declared.volume.Name.{Name}
@@ -58,21 +58,20 @@ pub record AreAnswered {V : Type 0} (now : V → Files) (may : V → Name → Op
   pub requests : AreRequests (filter is_answered lines) (map (λ line. line.0) answered)
   pub replies : AreLinesBetween now may settled start answered after
 
--- Which lines of a script were done when the run ended so. At a fault of the script each line whose line feed was taken was; at a
--- fault of the sink the last one was answered in part.
-abbrev pub AreLinesDone : List ℕ → Option (List ℕ) → List (Option (List ℕ)) → Status → Type 0
-AreLinesDone script left lines Done = (length script ≤ script_most) × (script_lines script ≡ lines)
-AreLinesDone script left lines ScriptTooLong = (script_most < length script) × (ended_lines (take script_most script) ≡ lines)
-AreLinesDone script left lines ScriptFault = (rest : List ℕ) × (left ≡ Some rest) × (ended_lines (take (length script - length rest) script) ≡ lines)
-AreLinesDone script left lines SinkFault = (more : List (Option (List ℕ))) × (script_lines script ≡ lines ++ more)
+-- Which lines of a script were done when the run ended so, where the script tells its bytes. At a fault of the script each line whose
+-- line feed was taken was; at a fault of the sink the last one was answered in part.
+abbrev pub AreLinesDone : Option (List ℕ) → Option (List ℕ) → List (Option (List ℕ)) → Status → Type 0
+AreLinesDone script left lines Done = IfSome script (λ bytes. (length bytes ≤ script_most) × (script_lines bytes ≡ lines))
+AreLinesDone script left lines ScriptTooLong = IfSome script (λ bytes. (script_most < length bytes) × (ended_lines (take script_most bytes) ≡ lines))
+AreLinesDone script left lines ScriptFault = IfSome script (λ bytes. (rest : List ℕ) × (left ≡ Some rest) × (ended_lines (take (length bytes - length rest) bytes) ≡ lines))
+AreLinesDone script left lines SinkFault = IfSome script (λ bytes. (more : List (Option (List ℕ))) × (script_lines bytes ≡ lines ++ more))
 AreLinesDone script left lines _ = ⊥
 
 -- A line behind these is one that is answered. From this state it leads to that one, and it forces more or begins a file.
-pub record LeadsTo (script : List ℕ) (lines : List (Option (List ℕ))) (s last : State) : Type 0 where
+pub record LeadsTo (script : Option (List ℕ)) (lines : List (Option (List ℕ))) (s last : State) : Type 0 where
   pub line : Option (List ℕ)
-  pub more : List (Option (List ℕ))
   pub request : Request
-  pub next : script_lines script ≡ lines ++ line ∷ more
+  pub next : IfSome script (λ bytes. (more : List (Option (List ℕ))) × (script_lines bytes ≡ lines ++ line ∷ more))
   pub is_one : is_answered line ≡ true
   pub asks : IsRequest line request
   pub leads : last ≡ (answer request s).1
@@ -81,7 +80,7 @@ pub record LeadsTo (script : List ℕ) (lines : List (Option (List ℕ))) (s las
 -- In which state the run ended so, where the lines that were answered led to the first one. A fault of the log files came at the end of
 -- the script, with all lines done and something to force, or in the next line, which had then made a part of its entries, and forces
 -- more or begins a file.
-abbrev pub EndsIn : List ℕ → Option (List ℕ) → List (Option (List ℕ)) → State → State → Status → Type 0
+abbrev pub EndsIn : Option (List ℕ) → Option (List ℕ) → List (Option (List ℕ)) → State → State → Status → Type 0
 EndsIn script left lines s last Done = AreLinesDone script left lines Done × (last ≡ script_ended s)
 EndsIn script left lines s last (VolumeFault Logs) = (AreLinesDone script left lines Done × (last ≡ s) × EndCallsLog s) ⊎ LeadsTo script lines s last
 EndsIn script left lines s last status = AreLinesDone script left lines status × (last ≡ s)
@@ -93,7 +92,7 @@ AreTexts before after answered _ = Appends before after (texts answered)
 
 -- The lines of a script were answered so from a moment on, up to a status, and the texts of the replies were written. They led to the
 -- moment behind them, and the run ended in the last state.
-pub record HasRun {V : Type 0} (now : V → Files) (may : V → Name → Option (List ℕ) → Type 0) (settled : Type 0) (script : List ℕ) (left : Option (List ℕ)) (start : Moment V) (before after : Option (List ℕ)) (status : Status) (behind : Moment V) (last : State) : Type 0 where
+pub record HasRun {V : Type 0} (now : V → Files) (may : V → Name → Option (List ℕ) → Type 0) (settled : Type 0) (script left : Option (List ℕ)) (start : Moment V) (before after : Option (List ℕ)) (status : Status) (behind : Moment V) (last : State) : Type 0 where
   pub lines : List (Option (List ℕ))
   pub replies : List (Request × Reply)
   pub answers : AreAnswered now may settled start lines replies behind
@@ -117,7 +116,7 @@ HasLeft now may settled _ behind last new = IsLeft now may settled behind last n
 -- From a moment on the lines of a script were done, up to a status: what was answered, written and left, all of one list of lines with
 -- their replies, and of the moments between them. What came behind the last answered line changed no file but the log files from the
 -- current one on.
-pub record IsRunFrom {V : Type 0} (now : V → Files) (may : V → Name → Option (List ℕ) → Type 0) (settled : Type 0) (script : List ℕ) (left : Option (List ℕ)) (start : Moment V) (before after : Option (List ℕ)) (status : Status) (new : V) : Type 0 where
+pub record IsRunFrom {V : Type 0} (now : V → Files) (may : V → Name → Option (List ℕ) → Type 0) (settled : Type 0) (script left : Option (List ℕ)) (start : Moment V) (before after : Option (List ℕ)) (status : Status) (new : V) : Type 0 where
   pub behind : Moment V
   pub last : State
   pub begins : HasForced now may settled start
@@ -134,7 +133,7 @@ UnlessLogsFailed _ unchanged = unchanged
 -- A run of a script, from the state that opening found. Where its Mark forces nothing and begins no file, opening changed no file; and
 -- where nothing was forced up to the last state, and no file began, the whole run didn't, unless a call on the log files failed.
 -- However it ended, it changed no file but the log files from the one on in which the log that was found ends.
-pub record IsRun {V : Type 0} (now : V → Files) (may : V → Name → Option (List ℕ) → Type 0) (settled : Type 0) (script : List ℕ) (left : Option (List ℕ)) (start : State) (before after : Option (List ℕ)) (status : Status) (old new : V) : Type 0 where
+pub record IsRun {V : Type 0} (now : V → Files) (may : V → Name → Option (List ℕ) → Type 0) (settled : Type 0) (script left : Option (List ℕ)) (start : State) (before after : Option (List ℕ)) (status : Status) (old new : V) : Type 0 where
   pub opened : V
   pub unchanged : IsStill start → Keeps (now old) (now opened) (may old) (may opened)
   pub lines : IsRunFrom now may settled script left (record { state = start; logs = opened }) before after status new

@@ -3,7 +3,7 @@ ghost use Rattle.std.specs.Prelude.{◌^◌, length, ◌≡◌, ◌≢◌, ◌<�
 ghost use Rattle.std.specs.Io.KnownBytes.{Appends};
 ghost use Rattle.tt_disk.specs.Causes.{HasCause, Rose};
 ghost use Rattle.tt_disk.specs.Volume.{Keeps};
-ghost use Rattle.tt_flow.specs.Reading.{HasGiven, bytes_to_come};
+ghost use Rattle.tt_flow.specs.Reading.{bytes_to_come};
 ghost use Rattle.tt_set.specs.Attributes.{AreInRange, Says};
 ghost use Rattle.tt_set.specs.declared.settings.Settings.{Settings};
 ghost use Rattle.tt_log.specs.Logs.{IsOpen, LeavesForced};
@@ -14,7 +14,7 @@ ghost use Rattle.tt_engine.specs.LogTrail.{ChangesFrom};
 ghost use Rattle.tt_engine.specs.Prefixes.{LogsAreSettled};
 ghost use Rattle.tt_engine.specs.Requests.{IsGiven};
 ghost use Rattle.tt_engine.specs.Starts.{begun_over, database};
-ghost use Rattle.tt_run.specs.Loops.{HasEnded, IsEnd, IsLine, IsNext, IsRunEnd, IsRunning, IsStep};
+ghost use Rattle.tt_run.specs.Loops.{HasEnded, IsEnd, IsGivenOf, IsLine, IsNext, IsRunEnd, IsRunning, IsStep};
 ghost use Rattle.tt_run.specs.Openings.{EndedEarly, HasNoPlace, IsBeforeLines, IsCreateEnd, IsCreateText, IsCreated, IsFaultOf, IsOpened, IsScriptRunEnd, LeavesNoOther, LeavesNoLog, OthersStay, mark_place};
 ghost use Rattle.tt_run.specs.Replies.{text_of};
 ghost use Rattle.tt_run.specs.Runs.{IsRun, Moment, IsRunFrom};
@@ -108,13 +108,12 @@ pub fn run<
 
     // The lines that were answered, what was written, what the log files have between two lines and at the end, and what a crash
     // leaves, all of one run of the model from the state that opening found; unless it ended before the lines.
-    ensures ran { (bytes : List ℕ) (found : Found) → L.told → form_of (map string_bytes words.now) ≡ Some Action.Run
-        → S.left script.old ≡ Some bytes → database (L.now logs.old) ≡ Ok found
+    ensures ran { (found : Found) → L.told → form_of (map string_bytes words.now) ≡ Some Action.Run → database (L.now logs.old) ≡ Ok found
         → ForSettings (A.left attributes.old) result (λ settings.
         EndedEarly result settings found ((script.new ≡ script.old) × (sink.new ≡ sink.old)
         × ChangesFrom found.end.file (L.now logs.old) (L.now logs.new) (L.may logs.old) (L.may logs.new))
         (LogsAreSettled (L.now logs.old) (L.may logs.old)) (L.now logs.old) (L.may logs.new)
-        ⊎ IsRun L.now L.may (LogsAreSettled (L.now logs.old) (L.may logs.old)) bytes (S.left script.new)
+        ⊎ IsRun L.now L.may (LogsAreSettled (L.now logs.old) (L.may logs.old)) (S.left script.old) (S.left script.new)
         (begun_over settings (L.now logs.old) found) (K.given sink.old) (K.given sink.new) result logs.old logs.new) }
 
     // Where no count rose, a script of at most 2^30 bytes is done to its end, and a database is made where there is none. Want of
@@ -197,11 +196,11 @@ fn run_script<S: Source, K: Sink, L: Volume>(
     logs: &mut L,
 ) -> Status
     requires settings { AreInRange settings.now }
-    ensures ran { (bytes : List ℕ) (found : Found) → L.told → S.left script.old ≡ Some bytes → database (L.now logs.old) ≡ Ok found
+    ensures ran { (found : Found) → L.told → database (L.now logs.old) ≡ Ok found
         → EndedEarly result settings.now found ((script.new ≡ script.old) × (sink.new ≡ sink.old)
         × ChangesFrom found.end.file (L.now logs.old) (L.now logs.new) (L.may logs.old) (L.may logs.new))
         (LogsAreSettled (L.now logs.old) (L.may logs.old)) (L.now logs.old) (L.may logs.new)
-        ⊎ IsRun L.now L.may (LogsAreSettled (L.now logs.old) (L.may logs.old)) bytes (S.left script.new)
+        ⊎ IsRun L.now L.may (LogsAreSettled (L.now logs.old) (L.may logs.old)) (S.left script.old) (S.left script.new)
         (begun_over settings.now (L.now logs.old) found) (K.given sink.old) (K.given sink.new) result logs.old logs.new }
     ensures opened { L.told → IsOpened settings.now (database (L.now logs.old)) result }
     ensures refused { (refusal : OpenRefusal) → L.told → database (L.now logs.old) ≡ Err refusal → (script.new ≡ script.old)
@@ -233,8 +232,8 @@ fn do_lines<S: Source, K: Sink, L: Volume>(
     logs: &mut L,
 ) -> Status
     requires open { L.told → IsOpen engine.log (L.now logs.old) (L.may logs.old) }
-    ensures ran { L.told → (bytes : List ℕ) (start : State) → S.left script.old ≡ Some bytes → Stands engine (L.now logs.old) start
-        → IsRunFrom L.now L.may (LeavesForced engine.log (L.now logs.old) (L.may logs.old)) bytes (S.left script.new)
+    ensures ran { L.told → (start : State) → Stands engine (L.now logs.old) start
+        → IsRunFrom L.now L.may (LeavesForced engine.log (L.now logs.old) (L.may logs.old)) (S.left script.old) (S.left script.new)
         (record { state = start; logs = logs.old }) (K.given sink.old) (K.given sink.new) result logs.new }
     ensures cause { IsRunEnd result (Rose (S.faults script.old) (S.faults script.new)) (Rose (K.faults sink.old) (K.faults sink.new))
         (Rose (L.faults logs.old) (L.faults logs.new)) }
@@ -274,9 +273,9 @@ fn do_line<S: Source, K: Sink, L: Volume>(
 ) -> Option<Status>
     requires open { L.told → IsOpen engine.old.log (L.now logs.old) (L.may logs.old) }
     ensures open { L.told → IfNone result (IsOpen engine.new.log (L.now logs.new) (L.may logs.new)) }
-    ensures step { L.told → (first : Engine) (start : Moment L) (bytes left : List ℕ) (before : Option (List ℕ)) (s : State)
-        → S.left script.old ≡ Some left
-        → IsRunning L.now L.may first start bytes left before (K.given sink.old) reader.old engine.old (record { state = s; logs = logs.old })
+    ensures step { L.told → (first : Engine) (start : Moment L) (bytes before : Option (List ℕ)) (s : State)
+        → IsRunning L.now L.may first start bytes (S.left script.old) before (K.given sink.old) reader.old engine.old
+        (record { state = s; logs = logs.old })
         → IsStep L.now L.may first start bytes (S.left script.new) before (K.given sink.new) reader.new engine.new logs.new result }
     ensures fewer { IfNone result (bytes_to_come reader.new < bytes_to_come reader.old) }
     ensures cause { IfSome result (λ status. IsRunEnd status (Rose (S.faults script.old) (S.faults script.new))
@@ -340,8 +339,8 @@ fn next_line<S: Source>(
     line: &mut LineBuf,
     script: &mut S,
 ) -> Result<NextLine, Failed>
-    ensures read { (bytes left : List ℕ) (given : List (Option (List ℕ))) → S.left script.old ≡ Some left
-        → HasGiven bytes given reader.old left → IsNext bytes given result reader.new (S.left script.new) }
+    ensures read { (bytes : Option (List ℕ)) (given : List (Option (List ℕ))) → IsGivenOf bytes given reader.old (S.left script.old)
+        → IsNext bytes given result reader.new (S.left script.new) }
     ensures fewer { IfOk result (λ next. IsLine next → bytes_to_come reader.new < bytes_to_come reader.old) }
     ensures cause { HasCause (S.faults script.old) (S.faults script.new) result }
 {

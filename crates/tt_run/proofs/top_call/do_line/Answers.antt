@@ -6,38 +6,38 @@ use Rattle.tt_run.proofs.RunLemmas.{ended_script, failed_line, failed_put, faile
 use Rattle.tt_run.proofs.top_call.do_line.Goals as goal
 
 pub returns-in-Ok-Skipped-clause-step : goal.returns-in-Ok-Skipped-clause-step
-returns-in-Ok-Skipped-clause-step g c = λ told first start bytes left before s is_left run.
-    let next = subst (λ (r : Result NextLine Failed). IsNext bytes run.lines r c.next_line.new.reader (g.S.Source.left c.next_line.new.script)) (c.in-Ok-Skipped.is ∙ ap (λ (n : NextLine). Ok n) c.in-Ok-Skipped.field-0-is) (c.next_line.ensures.read bytes left run.lines is_left run.given) in
-    let (rest, told_rest, running) = goes_past g.L.Volume.now g.L.Volume.may first start bytes left (g.S.Source.left c.next_line.new.script) before (g.K.Sink.given c.args.sink.now) c.args.reader.now c.next_line.new.reader c.args.engine.now (record { state = s; logs = c.args.logs.now }) run next in
-    (s, rest, told_rest, running)
+returns-in-Ok-Skipped-clause-step g c = λ told first start bytes before s run.
+    let next = subst (λ (r : Result NextLine Failed). IsNext bytes run.lines r c.next_line.new.reader (g.S.Source.left c.next_line.new.script)) (c.in-Ok-Skipped.is ∙ ap (λ (n : NextLine). Ok n) c.in-Ok-Skipped.field-0-is) (c.next_line.ensures.read bytes run.lines run.given) in
+    let running = goes_past g.L.Volume.now g.L.Volume.may first start bytes (g.S.Source.left c.args.script.now) (g.S.Source.left c.next_line.new.script) before (g.K.Sink.given c.args.sink.now) c.args.reader.now c.next_line.new.reader c.args.engine.now (record { state = s; logs = c.args.logs.now }) run next in
+    (s, running)
 
 pub returns-in-Ok-End-clause-step : goal.returns-in-Ok-End-clause-step
-returns-in-Ok-End-clause-step g c = λ told first start bytes left before s is_left run.
-    let next = subst (λ (r : Result NextLine Failed). IsNext bytes run.lines r c.next_line.new.reader (g.S.Source.left c.next_line.new.script)) (c.in-Ok-End.is ∙ ap (λ (n : NextLine). Ok n) c.in-Ok-End.field-0-is) (c.next_line.ensures.read bytes left run.lines is_left run.given) in
-    ended_script g.L.Volume.now g.L.Volume.may first start bytes left (g.S.Source.left c.next_line.new.script) before (g.K.Sink.given c.args.sink.now) c.args.reader.now c.args.engine.now (record { state = s; logs = c.args.logs.now }) c.end_script.new.logs c.end_script.result run next
+returns-in-Ok-End-clause-step g c = λ told first start bytes before s run.
+    let next = subst (λ (r : Result NextLine Failed). IsNext bytes run.lines r c.next_line.new.reader (g.S.Source.left c.next_line.new.script)) (c.in-Ok-End.is ∙ ap (λ (n : NextLine). Ok n) c.in-Ok-End.field-0-is) (c.next_line.ensures.read bytes run.lines run.given) in
+    ended_script g.L.Volume.now g.L.Volume.may first start bytes (g.S.Source.left c.args.script.now) (g.S.Source.left c.next_line.new.script) before (g.K.Sink.given c.args.sink.now) c.args.reader.now c.args.engine.now (record { state = s; logs = c.args.logs.now }) c.end_script.new.logs c.end_script.result run next
     (c.end_script.ensures.ends told s run.stands) (c.end_script.ensures.others told s run.stands)
 
 pub returns-in-Ok-ScriptTooLong-clause-step : goal.returns-in-Ok-ScriptTooLong-clause-step
-returns-in-Ok-ScriptTooLong-clause-step g c = λ told first start bytes left before s is_left run.
-    let next = subst (λ (r : Result NextLine Failed). IsNext bytes run.lines r c.next_line.new.reader (g.S.Source.left c.next_line.new.script)) (c.in-Ok-ScriptTooLong.is ∙ ap (λ (n : NextLine). Ok n) c.in-Ok-ScriptTooLong.field-0-is) (c.next_line.ensures.read bytes left run.lines is_left run.given) in
-    long_script g.L.Volume.now g.L.Volume.may first start bytes left (g.S.Source.left c.next_line.new.script) before (g.K.Sink.given c.args.sink.now) c.args.reader.now c.args.engine.now (record { state = s; logs = c.args.logs.now }) run next
+returns-in-Ok-ScriptTooLong-clause-step g c = λ told first start bytes before s run.
+    let next = subst (λ (r : Result NextLine Failed). IsNext bytes run.lines r c.next_line.new.reader (g.S.Source.left c.next_line.new.script)) (c.in-Ok-ScriptTooLong.is ∙ ap (λ (n : NextLine). Ok n) c.in-Ok-ScriptTooLong.field-0-is) (c.next_line.ensures.read bytes run.lines run.given) in
+    long_script g.L.Volume.now g.L.Volume.may first start bytes (g.S.Source.left c.args.script.now) (g.S.Source.left c.next_line.new.script) before (g.K.Sink.given c.args.sink.now) c.args.reader.now c.args.engine.now (record { state = s; logs = c.args.logs.now }) run next
 
 pub returns-in-Err-clause-step : goal.returns-in-Err-clause-step
-returns-in-Err-clause-step g c = λ told first start bytes left before s is_left run.
-    let next = subst (λ (r : Result NextLine Failed). IsNext bytes run.lines r c.next_line.new.reader (g.S.Source.left c.next_line.new.script)) c.in-Err.is (c.next_line.ensures.read bytes left run.lines is_left run.given) in
-    failed_script g.L.Volume.now g.L.Volume.may first start bytes left (g.S.Source.left c.next_line.new.script) before (g.K.Sink.given c.args.sink.now) c.args.reader.now c.args.engine.now (record { state = s; logs = c.args.logs.now }) run next
+returns-in-Err-clause-step g c = λ told first start bytes before s run.
+    let next = subst (λ (r : Result NextLine Failed). IsNext bytes run.lines r c.next_line.new.reader (g.S.Source.left c.next_line.new.script)) c.in-Err.is (c.next_line.ensures.read bytes run.lines run.given) in
+    failed_script g.L.Volume.now g.L.Volume.may first start bytes (g.S.Source.left c.args.script.now) (g.S.Source.left c.next_line.new.script) before (g.K.Sink.given c.args.sink.now) c.args.reader.now c.args.engine.now (record { state = s; logs = c.args.logs.now }) run next
 
 pub returns-in-Err-step-clause-step : goal.returns-in-Err-step-clause-step
-returns-in-Err-step-clause-step g c = λ told first start bytes left before s is_left run.
-    let next = subst (λ (r : Result NextLine Failed). IsNext bytes run.lines r c.next_line.new.reader (g.S.Source.left c.next_line.new.script)) (c.in-Ok-Asks.is ∙ ap (λ (n : NextLine). Ok n) c.in-Ok-Asks.field-0-is) (c.next_line.ensures.read bytes left run.lines is_left run.given) in
-    failed_line g.L.Volume.now g.L.Volume.may first start bytes left (g.S.Source.left c.next_line.new.script) before (g.K.Sink.given c.args.sink.now) c.args.reader.now c.next_line.new.reader c.args.engine.now (record { state = s; logs = c.args.logs.now }) c.step.new.logs
+returns-in-Err-step-clause-step g c = λ told first start bytes before s run.
+    let next = subst (λ (r : Result NextLine Failed). IsNext bytes run.lines r c.next_line.new.reader (g.S.Source.left c.next_line.new.script)) (c.in-Ok-Asks.is ∙ ap (λ (n : NextLine). Ok n) c.in-Ok-Asks.field-0-is) (c.next_line.ensures.read bytes run.lines run.given) in
+    failed_line g.L.Volume.now g.L.Volume.may first start bytes (g.S.Source.left c.args.script.now) (g.S.Source.left c.next_line.new.script) before (g.K.Sink.given c.args.sink.now) c.args.reader.now c.next_line.new.reader c.args.engine.now (record { state = s; logs = c.args.logs.now }) c.step.new.logs
     c.in-Ok-Asks.request run next (c.in-Err-step.ensures.fails told s run.stands) (c.step.ensures.onward told s run.stands) (c.step.ensures.others told s run.stands) (c.in-Err-step.ensures.crash told s run.stands)
 
 pub returns-in-Ok-put_reply-clause-step : goal.returns-in-Ok-put_reply-clause-step
-returns-in-Ok-put_reply-clause-step g c = λ told first start bytes left before s is_left run.
-    let next = subst (λ (r : Result NextLine Failed). IsNext bytes run.lines r c.next_line.new.reader (g.S.Source.left c.next_line.new.script)) (c.in-Ok-Asks.is ∙ ap (λ (n : NextLine). Ok n) c.in-Ok-Asks.field-0-is) (c.next_line.ensures.read bytes left run.lines is_left run.given) in
+returns-in-Ok-put_reply-clause-step g c = λ told first start bytes before s run.
+    let next = subst (λ (r : Result NextLine Failed). IsNext bytes run.lines r c.next_line.new.reader (g.S.Source.left c.next_line.new.script)) (c.in-Ok-Asks.is ∙ ap (λ (n : NextLine). Ok n) c.in-Ok-Asks.field-0-is) (c.next_line.ensures.read bytes run.lines run.given) in
     let so = c.in-Ok.ensures.answers told s run.stands in
-    let (rest, told_rest, running) = goes_on g.L.Volume.now g.L.Volume.may first start bytes left (g.S.Source.left c.next_line.new.script) before (g.K.Sink.given c.args.sink.now) (g.K.Sink.given c.put_reply.new.sink) c.args.reader.now c.next_line.new.reader
+    let running = goes_on g.L.Volume.now g.L.Volume.may first start bytes (g.S.Source.left c.args.script.now) (g.S.Source.left c.next_line.new.script) before (g.K.Sink.given c.args.sink.now) (g.K.Sink.given c.put_reply.new.sink) c.args.reader.now c.next_line.new.reader
     c.args.engine.now c.step.new.self (record { state = s; logs = c.args.logs.now }) (record { state = so.after; logs = c.step.new.logs }) c.in-Ok-Asks.request c.in-Ok.reply run next
     (record {
       answers = so.answers;
@@ -48,14 +48,14 @@ returns-in-Ok-put_reply-clause-step g c = λ told first start bytes left before 
       kept = c.in-Ok.ensures.kept told;
       holds = record { files = so.stands.log.files; opens = c.opens_after_crash.ensures.forced told so.after so.stands; settled_again = c.opens_after_crash.ensures.settled told so.after so.stands };
     }) c.in-Ok-put_reply.ensures.whole in
-    (so.after, rest, told_rest, running)
+    (so.after, running)
 
 pub returns-in-Err-put_reply-clause-step : goal.returns-in-Err-put_reply-clause-step
-returns-in-Err-put_reply-clause-step g c = λ told first start bytes left before s is_left run.
-    let next = subst (λ (r : Result NextLine Failed). IsNext bytes run.lines r c.next_line.new.reader (g.S.Source.left c.next_line.new.script)) (c.in-Ok-Asks.is ∙ ap (λ (n : NextLine). Ok n) c.in-Ok-Asks.field-0-is) (c.next_line.ensures.read bytes left run.lines is_left run.given) in
+returns-in-Err-put_reply-clause-step g c = λ told first start bytes before s run.
+    let next = subst (λ (r : Result NextLine Failed). IsNext bytes run.lines r c.next_line.new.reader (g.S.Source.left c.next_line.new.script)) (c.in-Ok-Asks.is ∙ ap (λ (n : NextLine). Ok n) c.in-Ok-Asks.field-0-is) (c.next_line.ensures.read bytes run.lines run.given) in
     let so = c.in-Ok.ensures.answers told s run.stands in
     let (n, part) = c.in-Err-put_reply.ensures.prefix in
-    failed_put g.L.Volume.now g.L.Volume.may first start bytes left (g.S.Source.left c.next_line.new.script) before (g.K.Sink.given c.args.sink.now) (g.K.Sink.given c.put_reply.new.sink) c.args.reader.now c.next_line.new.reader
+    failed_put g.L.Volume.now g.L.Volume.may first start bytes (g.S.Source.left c.args.script.now) (g.S.Source.left c.next_line.new.script) before (g.K.Sink.given c.args.sink.now) (g.K.Sink.given c.put_reply.new.sink) c.args.reader.now c.next_line.new.reader
     c.args.engine.now c.step.new.self (record { state = s; logs = c.args.logs.now }) (record { state = so.after; logs = c.step.new.logs }) c.in-Ok-Asks.request c.in-Ok.reply n run next
     (record {
       answers = so.answers;

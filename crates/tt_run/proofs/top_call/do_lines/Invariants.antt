@@ -1,4 +1,4 @@
-use Rattle.std.proofs.Common.{◌≡◌, Some, List, ℕ}
+use Rattle.std.proofs.Common.{◌≡◌}
 use Rattle.tt_flow.specs.Reading.{bytes_to_come}
 use Rattle.tt_log.specs.Logs.{IsOpen}
 use Rattle.tt_model.specs.State.{State}
@@ -15,7 +15,6 @@ invariant-lines g l = record {
   scripts : g.S.Source.faults l.script ≡ g.S.Source.faults l.initial.script;
   sinks : g.K.Sink.faults l.sink ≡ g.K.Sink.faults l.initial.sink;
   volumes : g.L.Volume.faults l.logs ≡ g.L.Volume.faults l.initial.logs;
-  running : g.L.Volume.told → (bytes : List ℕ) (start : State) → g.S.Source.left l.initial.script ≡ Some bytes → Stands l.fn.engine (g.L.Volume.now l.initial.logs) start
-      → (s : State) × (left : List ℕ) × (g.S.Source.left l.script ≡ Some left)
-      × IsRunning g.L.Volume.now g.L.Volume.may l.fn.engine (record { state = start; logs = l.initial.logs }) bytes left (g.K.Sink.given l.initial.sink) (g.K.Sink.given l.sink) l.reader l.engine (record { state = s; logs = l.logs });
+  running : g.L.Volume.told → (start : State) → Stands l.fn.engine (g.L.Volume.now l.initial.logs) start
+      → (s : State) × IsRunning g.L.Volume.now g.L.Volume.may l.fn.engine (record { state = start; logs = l.initial.logs }) (g.S.Source.left l.initial.script) (g.S.Source.left l.script) (g.K.Sink.given l.initial.sink) (g.K.Sink.given l.sink) l.reader l.engine (record { state = s; logs = l.logs });
 }

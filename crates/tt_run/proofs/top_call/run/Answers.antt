@@ -36,7 +36,7 @@ pub returns-in-Err-clause-opened : goal.returns-in-Err-clause-opened
 returns-in-Err-clause-opened g c = λ told form. inl (ended_in_attributes c.in-Err.status _ (ended_so c.in-Err.status _ c.in-Err.ensures.cause))
 
 pub returns-in-Err-clause-ran : goal.returns-in-Err-clause-ran
-returns-in-Err-clause-ran g c = λ bytes found told form script is. inl (ended_in_attributes c.in-Err.status _ (ended_so c.in-Err.status _ c.in-Err.ensures.cause))
+returns-in-Err-clause-ran g c = λ found told form is. inl (ended_in_attributes c.in-Err.status _ (ended_so c.in-Err.status _ c.in-Err.ensures.cause))
 
 pub returns-in-Err-clause-complete_run : goal.returns-in-Err-clause-complete_run
 returns-in-Err-clause-complete_run g c = λ bytes text settings found known form script told says is place short no_script no_attributes no_sink no_logs.
@@ -59,7 +59,7 @@ pub returns-in-Run-clause-opened : goal.returns-in-Run-clause-opened
 returns-in-Run-clause-opened g c = λ told form. inr (c.in-Ok.settings, are_settings (g.A.Source.left c.args.attributes.now) c.in-Ok.settings c.in-Ok.ensures.range c.in-Ok.ensures.says, c.run_script.ensures.opened told)
 
 pub returns-in-Run-clause-ran : goal.returns-in-Run-clause-ran
-returns-in-Run-clause-ran g c = λ bytes found told form script is. inr (c.in-Ok.settings, are_settings (g.A.Source.left c.args.attributes.now) c.in-Ok.settings c.in-Ok.ensures.range c.in-Ok.ensures.says, c.run_script.ensures.ran bytes found told script is)
+returns-in-Run-clause-ran g c = λ found told form is. inr (c.in-Ok.settings, are_settings (g.A.Source.left c.args.attributes.now) c.in-Ok.settings c.in-Ok.ensures.range c.in-Ok.ensures.says, c.run_script.ensures.ran found told is)
 
 pub returns-in-Create-clause-created : goal.returns-in-Create-clause-created
 returns-in-Create-clause-created g c = λ told form. inr (c.create.ensures.created told)
@@ -69,8 +69,8 @@ returns-in-Run-clause-complete_run g c = λ bytes text settings found known form
     let same = same_settings settings c.in-Ok.settings (c.in-Ok.ensures.only text (Ok settings) told says) in
     let settled : Type 0 = LogsAreSettled (g.L.Volume.now c.args.logs.now) (g.L.Volume.may c.args.logs.now) in
     let untouched : Type 0 = (c.run_script.new.script ≡ c.args.script.now) × (c.run_script.new.sink ≡ c.args.sink.now) × ChangesFrom found.end.file (g.L.Volume.now c.args.logs.now) (g.L.Volume.now c.run_script.new.logs) (g.L.Volume.may c.args.logs.now) (g.L.Volume.may c.run_script.new.logs) in
-    completes g.L.Volume.now g.L.Volume.may bytes (g.S.Source.left c.run_script.new.script) c.in-Ok.settings found (begun_over c.in-Ok.settings (g.L.Volume.now c.args.logs.now) found) (g.K.Sink.given c.args.sink.now) (g.K.Sink.given c.run_script.new.sink) c.run_script.result settled untouched
-    c.args.logs.now c.run_script.new.logs _ ⊥ _ _ ⊥ ⊥ (c.run_script.ensures.ran bytes found known script is)
+    completes g.L.Volume.now g.L.Volume.may (g.S.Source.left c.args.script.now) bytes (g.S.Source.left c.run_script.new.script) c.in-Ok.settings found (begun_over c.in-Ok.settings (g.L.Volume.now c.args.logs.now) found) (g.K.Sink.given c.args.sink.now) (g.K.Sink.given c.run_script.new.sink) c.run_script.result settled untouched
+    c.args.logs.now c.run_script.new.logs _ ⊥ _ _ ⊥ ⊥ script (c.run_script.ensures.ran found known is)
     (subst (λ (r : Result Found OpenRefusal). IsOpened c.in-Ok.settings r c.run_script.result) is (c.run_script.ensures.opened known)) (script_run_cause c.run_script.result _ _ _ c.run_script.ensures.statuses)
     (subst (λ (s : Settings). IsSome (mark_place s found)) same place) short no_script (λ none. none) no_sink no_logs
 

@@ -12,20 +12,20 @@ use Rattle.tt_run.proofs.OpenLemmas.{begun_found, found_not_refused, opened_line
 use Rattle.tt_run.proofs.top_call.run_script.Goals as goal
 
 pub returns-in-Ok-clause-ran : goal.returns-in-Ok-clause-ran
-returns-in-Ok-clause-ran g c = λ bytes found told is_script is.
+returns-in-Ok-clause-ran g c = λ found told is.
     let started = c.in-Ok.ensures.started told in
     let now_old = g.L.Volume.now c.args.logs.now in
     let may_old = g.L.Volume.may c.args.logs.now in
     let start = begun_over c.args.settings.now now_old started.found in
-    let run = c.do_lines.ensures.ran told bytes start is_script started.stands in
-    inr (subst (λ (f : Found). IsRun g.L.Volume.now g.L.Volume.may (LogsAreSettled now_old may_old) bytes (g.S.Source.left c.do_lines.new.script) (begun_over c.args.settings.now now_old f) (g.K.Sink.given c.args.sink.now) (g.K.Sink.given c.do_lines.new.sink) c.do_lines.result c.args.logs.now c.do_lines.new.logs)
+    let run = c.do_lines.ensures.ran told start started.stands in
+    inr (subst (λ (f : Found). IsRun g.L.Volume.now g.L.Volume.may (LogsAreSettled now_old may_old) (g.S.Source.left c.args.script.now) (g.S.Source.left c.do_lines.new.script) (begun_over c.args.settings.now now_old f) (g.K.Sink.given c.args.sink.now) (g.K.Sink.given c.do_lines.new.sink) c.do_lines.result c.args.logs.now c.do_lines.new.logs)
     (same_found now_old started.found found started.is is)
-    (run_over g.L.Volume.now g.L.Volume.may (LeavesForced c.in-Ok.engine.log (g.L.Volume.now c.start.new.logs) (g.L.Volume.may c.start.new.logs)) (LogsAreSettled now_old may_old) bytes (g.S.Source.left c.do_lines.new.script) start (g.K.Sink.given c.args.sink.now) (g.K.Sink.given c.do_lines.new.sink) c.do_lines.result
+    (run_over g.L.Volume.now g.L.Volume.may (LeavesForced c.in-Ok.engine.log (g.L.Volume.now c.start.new.logs) (g.L.Volume.may c.start.new.logs)) (LogsAreSettled now_old may_old) (g.S.Source.left c.args.script.now) (g.S.Source.left c.do_lines.new.script) start (g.K.Sink.given c.args.sink.now) (g.K.Sink.given c.do_lines.new.sink) c.do_lines.result
     c.args.logs.now c.start.new.logs c.do_lines.new.logs (c.start.ensures.since started.found) (λ settled. c.in-Ok.ensures.kept told (settled_reads now_old may_old settled)) (λ still. c.in-Ok.ensures.still told started.found started.is still)
     (subst (λ (f : Found). ChangesFrom f.end.file now_old (g.L.Volume.now c.start.new.logs) may_old (g.L.Volume.may c.start.new.logs)) (sym (begun_found c.args.settings.now now_old started.found)) (c.start.ensures.others told started.found started.is)) run))
 
 pub returns-in-Err-Failed-clause-ran : goal.returns-in-Err-Failed-clause-ran
-returns-in-Err-Failed-clause-ran g c = λ bytes found told is_script is.
+returns-in-Err-Failed-clause-ran g c = λ found told is.
     inl ((refl, refl, c.start.ensures.others told found (database_opens (g.L.Volume.now c.args.logs.now) found is)), λ settled. c.start.ensures.crash told (settled_reads (g.L.Volume.now c.args.logs.now) (g.L.Volume.may c.args.logs.now) settled) found (database_opens (g.L.Volume.now c.args.logs.now) found is))
 
 pub returns-in-Ok-clause-opened : goal.returns-in-Ok-clause-opened
@@ -43,6 +43,6 @@ pub returns-in-Err-LogOut-clause-opened : goal.returns-in-Err-LogOut-clause-open
 returns-in-Err-LogOut-clause-opened g c = λ told. let (found, is, none) = subst (λ (e : OpenRefusal). IsRefusedSo c.args.settings.now (g.L.Volume.now c.args.logs.now) e) c.in-Err-LogOut.field-0-is (c.in-Err-LogOut.ensures.refused told) in opened_out c.args.settings.now (g.L.Volume.now c.args.logs.now) found is none
 
 pub returns-in-Err-LogOut-clause-ran : goal.returns-in-Err-LogOut-clause-ran
-returns-in-Err-LogOut-clause-ran g c = λ bytes found told is_script is.
+returns-in-Err-LogOut-clause-ran g c = λ found told is.
     let (other, opens, none) = subst (λ (e : OpenRefusal). IsRefusedSo c.args.settings.now (g.L.Volume.now c.args.logs.now) e) c.in-Err-LogOut.field-0-is (c.in-Err-LogOut.ensures.refused told) in
     inl (subst (λ (f : Found). mark_place c.args.settings.now f ≡ None) (same_found (g.L.Volume.now c.args.logs.now) other found opens is) none)
