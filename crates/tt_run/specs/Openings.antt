@@ -15,9 +15,9 @@ use Rattle.tt_model.specs.Found.{Found}
 use Rattle.tt_recover.specs.Opening.{found_by, opening}
 use Rattle.tt_engine.specs.Prefixes.{LeavesOpening, LogsAreSettled}
 use Rattle.tt_engine.specs.Starts.{begun_over, database}
-use Rattle.tt_set.specs.Attributes.{Says}
 use Rattle.tt_engine.specs.declared.refusal.OpenRefusal.{OpenRefusal}
 use Rattle.tt_engine.specs.declared.refusal.OpenRefusal.TheVariants as refusal
+use Rattle.tt_run.specs.Settings.{AreSettings}
 use Rattle.tt_run.specs.declared.status.Status.{Status}
 use Rattle.tt_run.specs.declared.status.Status.TheVariants.{Done, ScriptFault, AttributesFault, SinkFault, VolumeFault, NoMemory, Usage, Damaged, Exists, NoDatabase, BadAttribute, LogOut, ScriptTooLong}
 
@@ -101,13 +101,11 @@ IsOpened settings (Ok found) NoMemory = Unit {0}
 IsOpened settings (Ok found) (VolumeFault Logs) = Unit {0}
 IsOpened settings (Ok found) _ = ⊥
 
--- The text of the attributes is right and the database opens, but the Mark has no place.
+-- The attributes are right and the database opens, but the Mark has no place.
 pub record HasNoPlace (attributes : Option (List ℕ)) (files : Files) : Type 0 where
-  pub text : List ℕ
   pub settings : Settings
   pub found : Found
-  pub read : attributes ≡ Some text
-  pub says : Says text (Ok settings)
+  pub gives : AreSettings attributes settings
   pub opens : database files ≡ Ok found
   pub none : mark_place settings found ≡ None
 
