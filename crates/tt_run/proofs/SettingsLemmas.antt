@@ -123,10 +123,15 @@ ended_bad status fault name (wrong other is) said =
     let same : no_settings name ≡ no_settings other = subst (λ (x : Status). IsSaid (Err name) (Err x)) is said in
     inl (is ∙ ap (λ (n : List ℕ). BadAttribute n) (sym (same_Err name other same)))
 
-pub ended_in_attributes : (status : Status) (fault : Type 0) → EndedSo status fault → EndedInAttributes status
-ended_in_attributes status fault (unread is f) = subst (λ (x : Status). EndedInAttributes x) (sym is) tt
-ended_in_attributes status fault (unremembered is) = subst (λ (x : Status). EndedInAttributes x) (sym is) tt
-ended_in_attributes status fault (wrong name is) = subst (λ (x : Status). EndedInAttributes x) (sym is) tt
+bad_in : (attributes : Option (List ℕ)) (name : List ℕ) → ((text : List ℕ) → attributes ≡ Some text → Says text (Err name)) → EndedInAttributes attributes (BadAttribute name)
+bad_in None name says = tt
+bad_in (Some text) name says = says text refl
+
+pub ended_in_attributes : (attributes : Option (List ℕ)) (status : Status) (fault : Type 0) → ((text : List ℕ) → attributes ≡ Some text → IsFrom text (Err status)) → EndedSo status fault → EndedInAttributes attributes status
+ended_in_attributes attributes status fault says (unread is f) = subst (λ (x : Status). EndedInAttributes attributes x) (sym is) tt
+ended_in_attributes attributes status fault says (unremembered is) = subst (λ (x : Status). EndedInAttributes attributes x) (sym is) tt
+ended_in_attributes attributes status fault says (wrong name is) =
+    subst (λ (x : Status). EndedInAttributes attributes x) (sym is) (bad_in attributes name (λ text told. subst (λ (x : Status). IsFrom text (Err x)) is (says text told)))
 
 -- the settings that were read are those of the attributes
 pub are_settings : (attributes : Option (List ℕ)) (settings : Settings) → AreInRange settings → ((text : List ℕ) → attributes ≡ Some text → IsFrom text (Ok settings)) → AreSettings attributes settings

@@ -1,5 +1,5 @@
 -- What the attributes of a database lead to.
-use Rattle.std.specs.Prelude.{◌≡◌, ◌⊎◌, ℕ, List, Option, Some, None, Result, Ok, Err}
+use Rattle.std.specs.Prelude.{◌≡◌, ◌⊎◌, ℕ, List, Option, Some, None, IfSome, Result, Ok, Err}
 use Rattle.tt_set.specs.Attributes.{AreInRange, Says}
 use Rattle.tt_set.specs.declared.settings.Settings.{Settings}
 use Rattle.tt_run.specs.declared.status.Status.{Status}
@@ -40,16 +40,16 @@ abbrev pub AreSettings : Option (List ℕ) → Settings → Type 0
 AreSettings None settings = AreInRange settings
 AreSettings (Some text) settings = Says text (Ok settings)
 
--- a run ended in its attributes
-abbrev pub EndedInAttributes : Status → Type 0
-EndedInAttributes AttributesFault = Unit {0}
-EndedInAttributes NoMemory = Unit {0}
-EndedInAttributes (BadAttribute name) = Unit {0}
-EndedInAttributes _ = ⊥
+-- A run ended in its attributes: they couldn't be read, or, where they tell their text, it says that this one isn't right.
+abbrev pub EndedInAttributes : Option (List ℕ) → Status → Type 0
+EndedInAttributes attributes AttributesFault = Unit {0}
+EndedInAttributes attributes NoMemory = Unit {0}
+EndedInAttributes attributes (BadAttribute name) = IfSome attributes (λ text. Says text (Err name))
+EndedInAttributes attributes _ = ⊥
 
 -- a run ended in its attributes, or they give settings of which this is so
 abbrev pub ForSettings : Option (List ℕ) → Status → (Settings → Type 0) → Type 0
-ForSettings attributes status P = EndedInAttributes status ⊎ ((settings : Settings) × AreSettings attributes settings × P settings)
+ForSettings attributes status P = EndedInAttributes attributes status ⊎ ((settings : Settings) × AreSettings attributes settings × P settings)
 
 -- a run that ended so had attributes that aren't right
 abbrev pub IsBadSo : List ℕ → Status → Type 0

@@ -84,7 +84,8 @@ pub fn run<
     ensures create_script { form_of (map string_bytes words.now) ≡ Some Action.Create → script.new ≡ script.old }
 
     // `create DIR`, over a volume that tells its files.
-    ensures created { L.told → form_of (map string_bytes words.now) ≡ Some Action.Create → EndedInAttributes result
+    ensures created { L.told → form_of (map string_bytes words.now) ≡ Some Action.Create
+        → EndedInAttributes (A.left attributes.old) result
         ⊎ IsCreated (L.now logs.old (Name.Log 0)) result (L.now logs.new) (L.may logs.new) }
 
     // A database that is there stays as it is, whatever failed.
@@ -108,7 +109,8 @@ pub fn run<
 
     // The lines that were answered, what was written, what the log files have between two lines and at the end, and what a crash
     // leaves, all of one run of the model from the state that opening found; unless it ended before the lines.
-    ensures ran { (found : Found) → L.told → form_of (map string_bytes words.now) ≡ Some Action.Run → database (L.now logs.old) ≡ Ok found
+    ensures ran { (found : Found) → L.told → form_of (map string_bytes words.now) ≡ Some Action.Run
+        → database (L.now logs.old) ≡ Ok found
         → ForSettings (A.left attributes.old) result (λ settings.
         EndedEarly result settings found ((script.new ≡ script.old) × (sink.new ≡ sink.old)
         × ChangesFrom found.end.file (L.now logs.old) (L.now logs.new) (L.may logs.old) (L.may logs.new))

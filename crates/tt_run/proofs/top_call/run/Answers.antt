@@ -24,7 +24,7 @@ pub returns-in-Err-clause-bad_attribute : goal.returns-in-Err-clause-bad_attribu
 returns-in-Err-clause-bad_attribute g c = λ text name form told says. ended_bad c.in-Err.status _ name (ended_so c.in-Err.status _ c.in-Err.ensures.cause) (c.in-Err.ensures.only text (Err name) told says)
 
 pub returns-in-Err-clause-created : goal.returns-in-Err-clause-created
-returns-in-Err-clause-created g c = λ told form. inl (ended_in_attributes c.in-Err.status _ (ended_so c.in-Err.status _ c.in-Err.ensures.cause))
+returns-in-Err-clause-created g c = λ told form. inl (ended_in_attributes (g.A.Source.left c.args.attributes.now) c.in-Err.status _ c.in-Err.ensures.says (ended_so c.in-Err.status _ c.in-Err.ensures.cause))
 
 pub returns-in-Err-clause-no_other : goal.returns-in-Err-clause-no_other
 returns-in-Err-clause-no_other g c = λ told form none. none_left (g.L.Volume.may c.args.logs.now) none
@@ -33,10 +33,10 @@ pub returns-in-Err-clause-create_text : goal.returns-in-Err-clause-create_text
 returns-in-Err-clause-create_text g c = λ form. ended_text c.in-Err.status _ _ (g.K.Sink.given c.args.sink.now) (ended_so c.in-Err.status _ c.in-Err.ensures.cause) refl
 
 pub returns-in-Err-clause-opened : goal.returns-in-Err-clause-opened
-returns-in-Err-clause-opened g c = λ told form. inl (ended_in_attributes c.in-Err.status _ (ended_so c.in-Err.status _ c.in-Err.ensures.cause))
+returns-in-Err-clause-opened g c = λ told form. inl (ended_in_attributes (g.A.Source.left c.args.attributes.now) c.in-Err.status _ c.in-Err.ensures.says (ended_so c.in-Err.status _ c.in-Err.ensures.cause))
 
 pub returns-in-Err-clause-ran : goal.returns-in-Err-clause-ran
-returns-in-Err-clause-ran g c = λ found told form is. inl (ended_in_attributes c.in-Err.status _ (ended_so c.in-Err.status _ c.in-Err.ensures.cause))
+returns-in-Err-clause-ran g c = λ found told form is. inl (ended_in_attributes (g.A.Source.left c.args.attributes.now) c.in-Err.status _ c.in-Err.ensures.says (ended_so c.in-Err.status _ c.in-Err.ensures.cause))
 
 pub returns-in-Err-clause-complete_run : goal.returns-in-Err-clause-complete_run
 returns-in-Err-clause-complete_run g c = λ bytes text settings found known form script told says is place short no_script no_attributes no_sink no_logs.
