@@ -1,5 +1,5 @@
 -- One more line of a run.
-use Rattle.std.proofs.Common.{◌≡◌, ◌⊎◌, inl, inr, ℕ, Bool, true, false, cond, List, [], ◌∷◌, ◌++◌, arith, take, map, Option, Some, None, Ok, refl, sym, ap, ◌∙◌, subst, append_assoc, append-nil}
+use Rattle.std.proofs.Common.{◌≡◌, ◌⊎◌, inl, inr, ℕ, Bool, true, false, cond, List, [], ◌∷◌, ◌++◌, arith, take, map, Option, Some, None, Result, Ok, Err, refl, sym, ap, ◌∙◌, subst, append_assoc, append-nil}
 use Rattle.std.specs.Prelude.{IfSome, not, ◌↔◌}
 use Rattle.std.proofs.lemmas.List.{map-append}
 use Rattle.std.proofs.lemmas.Grind.{flat_map-append}
@@ -7,7 +7,9 @@ use Rattle.std.specs.Io.KnownBytes.{Appends}
 use Rattle.std.specs.List.{filter}
 use Rattle.tt_disk.specs.Volume.{Keeps}
 use Rattle.tt_disk.specs.declared.volume.Name.{Name}
-use Rattle.tt_flow.specs.Reading.{HasGiven, HasGivenTold}
+use Rattle.tt_disk.specs.declared.volume.Failed.{Failed}
+use Rattle.tt_flow.specs.Reading.{HasGiven, HasGivenTold, Reads}
+use Rattle.tt_flow.specs.declared.lines.LineRead.{LineRead}
 use Rattle.tt_flow.specs.Script.{script_lines}
 use Rattle.tt_flow.specs.declared.lines.Input.TheVariants.{Ended}
 use Rattle.tt_flow.specs.declared.lines.LineReader.{LineReader}
@@ -20,11 +22,11 @@ use Rattle.tt_log.specs.Logs.{LeavesForced}
 use Rattle.tt_model.specs.State.{State, write_position}
 use Rattle.tt_engine.specs.declared.engine.Engine.{Engine}
 use Rattle.tt_engine.specs.declared.request.Request.{Request}
-use Rattle.tt_engine.specs.Engines.{CallsLog, LeavesLine, Stands}
+use Rattle.tt_engine.specs.Engines.{Advances, CallsLog, LeavesLine, Stands}
 use Rattle.tt_engine.specs.FileLaws.{changes_none, changes_then}
 use Rattle.tt_engine.specs.LogTrail.{ChangesFrom, IsQuiet}
 use Rattle.tt_engine.specs.OnwardLaws.{same_onward, since_onward, still_before}
-use Rattle.tt_engine.specs.Prefixes.{IsOnward, IsSinceOpening, IsStill}
+use Rattle.tt_engine.specs.Prefixes.{IsOnward, IsSinceOpening, IsStill, LogsAreSettled, OpensForced}
 use Rattle.tt_engine.specs.Requests.{Answers, answer, script_ended}
 use Rattle.tt_run.specs.declared.status.Status.{Status}
 use Rattle.tt_run.specs.declared.status.Status.TheVariants.{Done, ScriptFault, SinkFault, VolumeFault, ScriptTooLong}
@@ -119,10 +121,20 @@ appended_none (Some xs) = sym (append-nil xs)
 
 -- the next line is skipped, or asks for something
 
--- what is so of each script is so of one that tells its bytes
-pub told_then : (script : Option (List ℕ)) (P Q : List ℕ → Type 0) → ((bytes : List ℕ) → P bytes → Q bytes) → IfSome script P → IfSome script Q
+-- what follows for bytes follows for a script that may not tell its own
+told_then : (script : Option (List ℕ)) (P Q : List ℕ → Type 0) → ((bytes : List ℕ) → P bytes → Q bytes) → IfSome script P → IfSome script Q
 told_then None P Q f p = tt
 told_then (Some bytes) P Q f p = f bytes p
+
+-- what an answer of the reader says of a script that may not tell its bytes
+pub next_reads : (script : Option (List ℕ)) (given : List (Option (List ℕ))) (old new : LineReader) (left rest : Option (List ℕ)) (line : List ℕ) (r answer : Result LineRead Failed) → r ≡ answer
+    → ((bytes from : List ℕ) (lines : List (Option (List ℕ))) → left ≡ Some from → HasGiven bytes lines old from → Reads bytes lines r line new rest) → IsGivenOf script given old left → IfSome script (λ bytes. Reads bytes given answer line new rest)
+next_reads None given old new left rest line r answer is reads has = tt
+next_reads (Some bytes) given old new left rest line r answer is reads (from, told, has) = subst (λ (a : Result LineRead Failed). Reads bytes given a line new rest) is (reads bytes from given told has)
+
+pub failed_next : (script : Option (List ℕ)) (given : List (Option (List ℕ))) (new : LineReader) (rest : Option (List ℕ)) (line : List ℕ) (failed : Failed) → IfSome script (λ bytes. Reads bytes given (Err failed) line new rest) → AreLinesDone script rest given ScriptFault
+failed_next None given new rest line failed reads = tt
+failed_next (Some bytes) given new rest line failed (from, told, has, lines) = (from, told, lines)
 
 pub skipped_next : (script : Option (List ℕ)) (given : List (Option (List ℕ))) (seen line : List ℕ) (reader : LineReader) (left : Option (List ℕ)) → seen ≡ line → is_skipped seen ≡ true → IsGivenOf script (given ++ Some line ∷ []) reader left
     → IsNext script given (Ok Skipped) reader left
@@ -273,6 +285,21 @@ pub record HasMoved {V : Type 0} (now : V → Files) (may : V → Outcomes) (old
   pub stands : Stands e (now next.logs) next.state
   pub kept : LeavesForced old.log (now moment.logs) (may moment.logs) → LeavesForced e.log (now next.logs) (may next.logs)
   pub holds : HasForced now may (LeavesForced e.log (now next.logs) (may next.logs)) next
+
+-- so it is behind a step of the engine that was answered
+pub has_moved : {V : Type 0} (now : V → Files) (may : V → Outcomes) (old : Engine) (moment : Moment V) (e : Engine) (request : Request) (reply : Reply) (logs : V) (so : Advances request moment.state reply e (now logs) (logs ≡ moment.logs))
+    → ChangesFrom (write_position moment.state).file (now moment.logs) (now logs) (may moment.logs) (may logs) → (LeavesForced old.log (now moment.logs) (may moment.logs) → LeavesForced e.log (now logs) (may logs))
+    → ((s : State) → Stands e (now logs) s → OpensForced s (now logs)) → ((s : State) → Stands e (now logs) s → LeavesForced e.log (now logs) (may logs) → LogsAreSettled (now logs) (may logs))
+    → HasMoved now may old moment e (request, reply) (record { state = so.after; logs = logs })
+has_moved now may old moment e request reply logs so others kept opens settled = record {
+  answers = so.answers;
+  onward = so.onward;
+  quiet = so.quiet;
+  others = others;
+  stands = so.stands;
+  kept = kept;
+  holds = record { files = so.stands.log.files; opens = opens so.after so.stands; settled_again = settled so.after so.stands };
+}
 
 line_between : {V : Type 0} (now : V → Files) (may : V → Outcomes) (first : Engine) (start : Moment V) (old e : Engine) (moment next : Moment V) (line : Request × Reply) → (WasSettled now may first start → LeavesForced old.log (now moment.logs) (may moment.logs))
     → HasMoved now may old moment e line next → IsLineBetween now may (WasSettled now may first start) moment line next

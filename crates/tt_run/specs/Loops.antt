@@ -26,7 +26,7 @@ use Rattle.tt_run.specs.Runs.{AreAnswered, AreLinesDone, HasForced, IsLeft, Mome
 abbrev pub WasSettled : {V : Type 0} → (V → Files) → (V → Name → Option (List ℕ) → Type 0) → Engine → Moment V → Type 0
 WasSettled now may first start = LeavesForced first.log (now start.logs) (may start.logs)
 
--- These lines were given of a script that tells its bytes.
+-- These lines were given of a script, where it tells its bytes.
 abbrev pub IsGivenOf : Option (List ℕ) → List (Option (List ℕ)) → LineReader → Option (List ℕ) → Type 0
 IsGivenOf script lines reader left = IfSome script (λ bytes. HasGivenTold bytes lines reader left)
 

@@ -2,7 +2,7 @@ use Rattle.std.proofs.Common.{◌∙◌, Ok, Result, ap, subst}
 use Rattle.tt_disk.specs.declared.volume.Failed.{Failed}
 use Rattle.tt_run.specs.declared.top_call.NextLine.{NextLine}
 use Rattle.tt_run.specs.Loops.{IsNext}
-use Rattle.tt_run.proofs.RunLemmas.{ended_script, failed_line, failed_put, failed_script, goes_on, goes_past, long_script}
+use Rattle.tt_run.proofs.RunLemmas.{ended_script, failed_line, failed_put, failed_script, goes_on, goes_past, has_moved, long_script}
 use Rattle.tt_run.proofs.top_call.do_line.Goals as goal
 
 pub returns-in-Ok-Skipped-clause-step : goal.returns-in-Ok-Skipped-clause-step
@@ -39,15 +39,8 @@ returns-in-Ok-put_reply-clause-step g c = λ told first start bytes before s run
     let so = c.in-Ok.ensures.answers told s run.stands in
     let running = goes_on g.L.Volume.now g.L.Volume.may first start bytes (g.S.Source.left c.args.script.now) (g.S.Source.left c.next_line.new.script) before (g.K.Sink.given c.args.sink.now) (g.K.Sink.given c.put_reply.new.sink) c.args.reader.now c.next_line.new.reader
     c.args.engine.now c.step.new.self (record { state = s; logs = c.args.logs.now }) (record { state = so.after; logs = c.step.new.logs }) c.in-Ok-Asks.request c.in-Ok.reply run next
-    (record {
-      answers = so.answers;
-      onward = so.onward;
-      quiet = so.quiet;
-      others = c.step.ensures.others told s run.stands;
-      stands = so.stands;
-      kept = c.in-Ok.ensures.kept told;
-      holds = record { files = so.stands.log.files; opens = c.opens_after_crash.ensures.forced told so.after so.stands; settled_again = c.opens_after_crash.ensures.settled told so.after so.stands };
-    }) c.in-Ok-put_reply.ensures.whole in
+    (has_moved g.L.Volume.now g.L.Volume.may c.args.engine.now (record { state = s; logs = c.args.logs.now }) c.step.new.self c.in-Ok-Asks.request c.in-Ok.reply c.step.new.logs so (c.step.ensures.others told s run.stands) (c.in-Ok.ensures.kept told)
+    (c.opens_after_crash.ensures.forced told) (c.opens_after_crash.ensures.settled told)) c.in-Ok-put_reply.ensures.whole in
     (so.after, running)
 
 pub returns-in-Err-put_reply-clause-step : goal.returns-in-Err-put_reply-clause-step
@@ -57,12 +50,5 @@ returns-in-Err-put_reply-clause-step g c = λ told first start bytes before s ru
     let (n, part) = c.in-Err-put_reply.ensures.prefix in
     failed_put g.L.Volume.now g.L.Volume.may first start bytes (g.S.Source.left c.args.script.now) (g.S.Source.left c.next_line.new.script) before (g.K.Sink.given c.args.sink.now) (g.K.Sink.given c.put_reply.new.sink) c.args.reader.now c.next_line.new.reader
     c.args.engine.now c.step.new.self (record { state = s; logs = c.args.logs.now }) (record { state = so.after; logs = c.step.new.logs }) c.in-Ok-Asks.request c.in-Ok.reply n run next
-    (record {
-      answers = so.answers;
-      onward = so.onward;
-      quiet = so.quiet;
-      others = c.step.ensures.others told s run.stands;
-      stands = so.stands;
-      kept = c.in-Ok.ensures.kept told;
-      holds = record { files = so.stands.log.files; opens = c.opens_after_crash.ensures.forced told so.after so.stands; settled_again = c.opens_after_crash.ensures.settled told so.after so.stands };
-    }) part
+    (has_moved g.L.Volume.now g.L.Volume.may c.args.engine.now (record { state = s; logs = c.args.logs.now }) c.step.new.self c.in-Ok-Asks.request c.in-Ok.reply c.step.new.logs so (c.step.ensures.others told s run.stands) (c.in-Ok.ensures.kept told)
+    (c.opens_after_crash.ensures.forced told) (c.opens_after_crash.ensures.settled told)) part
