@@ -1,7 +1,7 @@
 -- What a write that was done in part leaves of a file in pieces, how steps follow each other, and what stays of a count.
 use Rattle.std.proofs.Common.{◌≡◌, inl, inr, ℕ, ◌+◌, ◌≤◌, List, ◌++◌, length, take, drop, Option, Some, None, Ok, IsErrOf, refl, sym, ◌∙◌, ap, subst, arith, append_assoc, length-append, length-drop, take-append-drop}
 use Rattle.std.proofs.lemmas.List.{take_at, drop_at, take-take, drop-drop, length-take}
-use Rattle.tt_disk.specs.Causes.{RoseWhere}
+use Rattle.tt_disk.specs.Causes.{RoseWhere, Stays}
 use Rattle.tt_disk.specs.declared.volume.Name.{Name}
 use Rattle.tt_disk.specs.Volume.{overwritten, TornBytes, Torn, Steps, Keeps, IsSettled}
 
@@ -114,6 +114,6 @@ pub settled_elsewhere : (name other : Name) (a b : Name → Option (List ℕ)) (
 settled_elsewhere name other a b may_a may_b only differs settled file left =
     settled file (only.crash name differs file left) ∙ sym (only.reads name differs)
 
--- a call that was answered leaves the count as it was
-pub count_stays : {T E : Type 0} (value : T) (failure : E) (before now : ℕ) → RoseWhere (IsErrOf (Ok value) failure) before now → now ≡ before
-count_stays value failure before now rose = elim rose.stays [ inl failed ↦ let none : ⊥ = cc in absurd none | inr same ↦ same ]
+-- a call that was answered leaves an exact count as it was
+pub count_stays : {T E : Type 0} (exact : Type 0) (value : T) (failure : E) (before now : ℕ) → RoseWhere exact (IsErrOf (Ok value) failure) before now → Stays exact before now
+count_stays exact value failure before now rose = elim rose.stays [ inl failed ↦ let none : ⊥ = cc in absurd none | inr same ↦ same ]

@@ -300,7 +300,7 @@ impl DirVolume {
     // The answer without its error, which is counted.
     fn count<T: Drop>(&mut self, answer: io::Result<T>) -> Result<T, Failed>
         ensures same { MatchResult answer (λ x. result ≡ Ok x) (λ _. IsErr result) }
-        ensures cause { HasCause self.old.faults self.new.faults result }
+        ensures cause { HasCause (Unit {0}) self.old.faults self.new.faults result }
     {
         match answer {
             Ok(value) => Ok(value),
@@ -322,6 +322,8 @@ impl Volume for DirVolume {
     ghost may = { λ _ _ _. ⊥ };
 
     ghost faults = { λ v. v.faults };
+
+    ghost exact = { Unit {0} };
 
     ghost reads = { λ told. absurd told };
 

@@ -633,6 +633,8 @@ impl Volume for MemVolume {
 
     ghost faults = { λ m. m.faults };
 
+    ghost exact = { Unit {0} };
+
     ghost reads = { λ _ m name. now_may (found m.files.items name) };
 
     fn size(&mut self, name: Name) -> Result<Option<u64>, Failed>
@@ -640,7 +642,7 @@ impl Volume for MemVolume {
         ensures size { IfOk result (λ o. o ≡ option_map length (⟦<MemVolume as Volume>⟧.now self.old name)) }
         ensures keeps { Keeps (⟦<MemVolume as Volume>⟧.now self.old) (⟦<MemVolume as Volume>⟧.now self.new) (⟦<MemVolume as Volume>⟧.may self.old) (⟦<MemVolume as Volume>⟧.may self.new) }
         ensures reaches { KeepsAll (⟦<MemVolume as Volume>⟧.may self.old) (⟦<MemVolume as Volume>⟧.may self.new) }
-        ensures cause { HasCause (⟦<MemVolume as Volume>⟧.faults self.old) (⟦<MemVolume as Volume>⟧.faults self.new) result }
+        ensures cause { HasCause ⟦<MemVolume as Volume>⟧.exact (⟦<MemVolume as Volume>⟧.faults self.old) (⟦<MemVolume as Volume>⟧.faults self.new) result }
         ensures counted { IsCounted self.old self.new result }
         ensures unplanned { fails_next self.old ≡ false → size_of (⟦<MemVolume as Volume>⟧.now self.old name) ≤ 2 ^ 62 → IsOk result }
     {
@@ -658,7 +660,7 @@ impl Volume for MemVolume {
         ensures next { IfOk result (λ o. IsNextLog (⟦<MemVolume as Volume>⟧.now self.old) from o) }
         ensures keeps { Keeps (⟦<MemVolume as Volume>⟧.now self.old) (⟦<MemVolume as Volume>⟧.now self.new) (⟦<MemVolume as Volume>⟧.may self.old) (⟦<MemVolume as Volume>⟧.may self.new) }
         ensures reaches { KeepsAll (⟦<MemVolume as Volume>⟧.may self.old) (⟦<MemVolume as Volume>⟧.may self.new) }
-        ensures cause { HasCause (⟦<MemVolume as Volume>⟧.faults self.old) (⟦<MemVolume as Volume>⟧.faults self.new) result }
+        ensures cause { HasCause ⟦<MemVolume as Volume>⟧.exact (⟦<MemVolume as Volume>⟧.faults self.old) (⟦<MemVolume as Volume>⟧.faults self.new) result }
         ensures counted { IsCounted self.old self.new result }
         ensures unplanned { fails_next self.old ≡ false → IsOk result }
     {
@@ -674,7 +676,7 @@ impl Volume for MemVolume {
         ensures created { OnOk result (⟦<MemVolume as Volume>⟧.now self.new name ≡ Some []) }
         ensures steps { Steps Created name (⟦<MemVolume as Volume>⟧.now self.old) (⟦<MemVolume as Volume>⟧.now self.new) (⟦<MemVolume as Volume>⟧.may self.old) (⟦<MemVolume as Volume>⟧.may self.new) }
         ensures reaches { OnOk result (ReachesAll Created name (⟦<MemVolume as Volume>⟧.may self.old) (⟦<MemVolume as Volume>⟧.may self.new)) }
-        ensures cause { HasCause (⟦<MemVolume as Volume>⟧.faults self.old) (⟦<MemVolume as Volume>⟧.faults self.new) result }
+        ensures cause { HasCause ⟦<MemVolume as Volume>⟧.exact (⟦<MemVolume as Volume>⟧.faults self.old) (⟦<MemVolume as Volume>⟧.faults self.new) result }
         ensures counted { IsCounted self.old self.new result }
     {
         let fails = self.calls.begin();
@@ -692,7 +694,7 @@ impl Volume for MemVolume {
         ensures bytes { IfOk result (λ n. Gives (⟦<MemVolume as Volume>⟧.now self.old name) at buf.new n) }
         ensures keeps { Keeps (⟦<MemVolume as Volume>⟧.now self.old) (⟦<MemVolume as Volume>⟧.now self.new) (⟦<MemVolume as Volume>⟧.may self.old) (⟦<MemVolume as Volume>⟧.may self.new) }
         ensures reaches { KeepsAll (⟦<MemVolume as Volume>⟧.may self.old) (⟦<MemVolume as Volume>⟧.may self.new) }
-        ensures cause { HasCause (⟦<MemVolume as Volume>⟧.faults self.old) (⟦<MemVolume as Volume>⟧.faults self.new) result }
+        ensures cause { HasCause ⟦<MemVolume as Volume>⟧.exact (⟦<MemVolume as Volume>⟧.faults self.old) (⟦<MemVolume as Volume>⟧.faults self.new) result }
         ensures counted { IsCounted self.old self.new result }
         ensures unplanned { fails_next self.old ≡ false → IsOk result }
     {
@@ -715,7 +717,7 @@ impl Volume for MemVolume {
         ensures written { OnOk result (⟦<MemVolume as Volume>⟧.now self.new name ≡ written at bytes.now (⟦<MemVolume as Volume>⟧.now self.old name)) }
         ensures steps { Steps (Torn at (length bytes.now)) name (⟦<MemVolume as Volume>⟧.now self.old) (⟦<MemVolume as Volume>⟧.now self.new) (⟦<MemVolume as Volume>⟧.may self.old) (⟦<MemVolume as Volume>⟧.may self.new) }
         ensures reaches { OnOk result (ReachesAll (Torn at (length bytes.now)) name (⟦<MemVolume as Volume>⟧.may self.old) (⟦<MemVolume as Volume>⟧.may self.new)) }
-        ensures cause { HasCause (⟦<MemVolume as Volume>⟧.faults self.old) (⟦<MemVolume as Volume>⟧.faults self.new) result }
+        ensures cause { HasCause ⟦<MemVolume as Volume>⟧.exact (⟦<MemVolume as Volume>⟧.faults self.old) (⟦<MemVolume as Volume>⟧.faults self.new) result }
         ensures counted { IsCounted self.old self.new result }
     {
         let fails = self.calls.begin();
@@ -732,7 +734,7 @@ impl Volume for MemVolume {
         ensures keeps { Keeps (⟦<MemVolume as Volume>⟧.now self.old) (⟦<MemVolume as Volume>⟧.now self.new) (⟦<MemVolume as Volume>⟧.may self.old) (⟦<MemVolume as Volume>⟧.may self.new) }
         ensures others { KeepsOthers name (⟦<MemVolume as Volume>⟧.may self.old) (⟦<MemVolume as Volume>⟧.may self.new) }
         ensures unsettled { OnErr result (KeepsAll (⟦<MemVolume as Volume>⟧.may self.old) (⟦<MemVolume as Volume>⟧.may self.new)) }
-        ensures cause { HasCause (⟦<MemVolume as Volume>⟧.faults self.old) (⟦<MemVolume as Volume>⟧.faults self.new) result }
+        ensures cause { HasCause ⟦<MemVolume as Volume>⟧.exact (⟦<MemVolume as Volume>⟧.faults self.old) (⟦<MemVolume as Volume>⟧.faults self.new) result }
         ensures counted { IsCounted self.old self.new result }
     {
         let fails = self.calls.begin();
@@ -752,7 +754,7 @@ impl Volume for MemVolume {
         ensures removed { OnOk result (⟦<MemVolume as Volume>⟧.now self.new name ≡ None) }
         ensures steps { Steps Removed name (⟦<MemVolume as Volume>⟧.now self.old) (⟦<MemVolume as Volume>⟧.now self.new) (⟦<MemVolume as Volume>⟧.may self.old) (⟦<MemVolume as Volume>⟧.may self.new) }
         ensures reaches { OnOk result (ReachesAll Removed name (⟦<MemVolume as Volume>⟧.may self.old) (⟦<MemVolume as Volume>⟧.may self.new)) }
-        ensures cause { HasCause (⟦<MemVolume as Volume>⟧.faults self.old) (⟦<MemVolume as Volume>⟧.faults self.new) result }
+        ensures cause { HasCause ⟦<MemVolume as Volume>⟧.exact (⟦<MemVolume as Volume>⟧.faults self.old) (⟦<MemVolume as Volume>⟧.faults self.new) result }
         ensures counted { IsCounted self.old self.new result }
     {
         let fails = self.calls.begin();

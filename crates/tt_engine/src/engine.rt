@@ -149,7 +149,7 @@ impl Engine {
             × (self.new.own ≡ self.old.own)
             × (self.new.wish ≡ self.old.wish) × (self.new.rows ≡ self.old.rows) }
         ensures others { L.told → ChangesFrom self.old.log.number (L.now logs.old) (L.now logs.new) (L.may logs.old) (L.may logs.new) }
-        ensures cause { HasCause (L.faults logs.old) (L.faults logs.new) result }
+        ensures cause { HasCause L.exact (L.faults logs.old) (L.faults logs.new) result }
     {
         let entry = Entry::Mark;
         if !self.log.has_place(&entry) {
@@ -186,7 +186,7 @@ impl Engine {
             → Keeps (L.now logs.old) (L.now logs.new) (L.may logs.old) (L.may logs.new) }
         ensures others { L.told → (found : Found) → opening (L.now logs.old) ≡ Ok found
             → ChangesFrom found.end.file (L.now logs.old) (L.now logs.new) (L.may logs.old) (L.may logs.new) }
-        ensures cause { RoseWhere (IsErrOf result OpenRefusal.Failed) (L.faults logs.old) (L.faults logs.new) }
+        ensures cause { RoseWhere L.exact (IsErrOf result OpenRefusal.Failed) (L.faults logs.old) (L.faults logs.new) }
     {
         laws();
         let recovered = match recover(alloc, logs, settings.log_file_size, settings.log_buf_size) {
@@ -236,7 +236,7 @@ impl Engine {
             → Keeps (L.now logs.old) (L.now logs.new) (L.may logs.old) (L.may logs.new) }
         ensures others { L.told → (found : Found) → opening (L.now logs.old) ≡ Ok found
             → ChangesFrom found.end.file (L.now logs.old) (L.now logs.new) (L.may logs.old) (L.may logs.new) }
-        ensures cause { RoseWhere (IsErrOf result OpenRefusal.Failed) (L.faults logs.old) (L.faults logs.new) }
+        ensures cause { RoseWhere L.exact (IsErrOf result OpenRefusal.Failed) (L.faults logs.old) (L.faults logs.new) }
     {
         laws();
         match logs.size(Name::Log(0)) {
@@ -292,7 +292,7 @@ impl Engine {
         ensures wanting { IfOk result (λ reply. reply ≡ RefusedSo NoMemory → logs.new ≡ logs.old) }
         ensures given { IfOk result IsGiven }
         ensures others { L.told → ChangesFrom self.old.log.number (L.now logs.old) (L.now logs.new) (L.may logs.old) (L.may logs.new) }
-        ensures cause { HasCause (L.faults logs.old) (L.faults logs.new) result }
+        ensures cause { HasCause L.exact (L.faults logs.old) (L.faults logs.new) result }
     {
         laws();
         if !self.log.has_place(entry) {
@@ -334,7 +334,7 @@ impl Engine {
         ensures wanting { IfOk result (λ reply. reply ≡ RefusedSo NoMemory → logs.new ≡ logs.old) }
         ensures given { IfOk result IsGiven }
         ensures others { L.told → ChangesFrom self.old.log.number (L.now logs.old) (L.now logs.new) (L.may logs.old) (L.may logs.new) }
-        ensures cause { HasCause (L.faults logs.old) (L.faults logs.new) result }
+        ensures cause { HasCause L.exact (L.faults logs.old) (L.faults logs.new) result }
     {
         if self.rows.has_key(key) {
             return Ok(Reply::Refused(Refusal::DuplicateKey));
@@ -375,7 +375,7 @@ impl Engine {
         ensures fails { L.told → (s : State) → Stands self.old (L.now logs.old) s
             → OnErr result (¬ (IsQuiet s (settled 1 (forced_where (is_durable 1 s) s)))) }
         ensures others { L.told → ChangesFrom self.old.log.number (L.now logs.old) (L.now logs.new) (L.may logs.old) (L.may logs.new) }
-        ensures cause { HasCause (L.faults logs.old) (L.faults logs.new) result }
+        ensures cause { HasCause L.exact (L.faults logs.old) (L.faults logs.new) result }
     {
         if !self.is_durable() {
             self.wish = false;
@@ -408,7 +408,7 @@ impl Engine {
         ensures wanting { IfOk result (λ reply. reply ≡ RefusedSo NoMemory → logs.new ≡ logs.old) }
         ensures given { IfOk result IsGiven }
         ensures others { L.told → ChangesFrom self.old.log.number (L.now logs.old) (L.now logs.new) (L.may logs.old) (L.may logs.new) }
-        ensures cause { HasCause (L.faults logs.old) (L.faults logs.new) result }
+        ensures cause { HasCause L.exact (L.faults logs.old) (L.faults logs.new) result }
     {
         laws();
         let entry = Entry::Commit { transaction };
@@ -443,7 +443,7 @@ impl Engine {
         ensures wanting { IfOk result (λ reply. reply ≡ RefusedSo NoMemory → logs.new ≡ logs.old) }
         ensures given { IfOk result IsGiven }
         ensures others { L.told → ChangesFrom self.old.log.number (L.now logs.old) (L.now logs.new) (L.may logs.old) (L.may logs.new) }
-        ensures cause { HasCause (L.faults logs.old) (L.faults logs.new) result }
+        ensures cause { HasCause L.exact (L.faults logs.old) (L.faults logs.new) result }
     {
         laws();
         match self.own {
@@ -473,7 +473,7 @@ impl Engine {
         ensures wanting { IfOk result (λ reply. reply ≡ RefusedSo NoMemory → logs.new ≡ logs.old) }
         ensures given { IfOk result IsGiven }
         ensures others { L.told → ChangesFrom self.old.log.number (L.now logs.old) (L.now logs.new) (L.may logs.old) (L.may logs.new) }
-        ensures cause { HasCause (L.faults logs.old) (L.faults logs.new) result }
+        ensures cause { HasCause L.exact (L.faults logs.old) (L.faults logs.new) result }
     {
         laws();
         match force(&mut self.log, logs) {
@@ -526,7 +526,7 @@ impl Engine {
         ensures wanting { IfOk result (λ reply. reply ≡ RefusedSo NoMemory → logs.new ≡ logs.old) }
         ensures given { IfOk result IsGiven }
         ensures others { L.told → ChangesFrom self.old.log.number (L.now logs.old) (L.now logs.new) (L.may logs.old) (L.may logs.new) }
-        ensures cause { HasCause (L.faults logs.old) (L.faults logs.new) result }
+        ensures cause { HasCause L.exact (L.faults logs.old) (L.faults logs.new) result }
     {
         match request {
             Request::Insert { key, value } => self.insert(alloc, logs, key, value),
@@ -572,7 +572,7 @@ impl Engine {
         // No file changes but the log files from the current one on.
         ensures others { L.told → (s : State) → Stands self.old (L.now logs.old) s → ChangesFrom (write_position s).file (L.now logs.old)
             (L.now logs.new) (L.may logs.old) (L.may logs.new) }
-        ensures cause { HasCause (L.faults logs.old) (L.faults logs.new) result }
+        ensures cause { HasCause L.exact (L.faults logs.old) (L.faults logs.new) result }
     {
         laws();
         match self.answer(alloc, logs, request) {
@@ -612,7 +612,7 @@ impl Engine {
         // No file changes but the log files from the current one on.
         ensures others { L.told → (s : State) → Stands self.old (L.now logs.old) s → ChangesFrom (write_position s).file (L.now logs.old)
             (L.now logs.new) (L.may logs.old) (L.may logs.new) }
-        ensures cause { HasCause (L.faults logs.old) (L.faults logs.new) result }
+        ensures cause { HasCause L.exact (L.faults logs.old) (L.faults logs.new) result }
     {
         laws();
         match force(&mut self.log, logs) {

@@ -34,7 +34,7 @@ pub(crate) fn add<V: Volume>(log: &mut Log, volume: &mut V, entry: &Entry) -> Re
     // Files before the current one stay as they are, and those of other names.
     ensures others { V.told → ChangesFrom log.old.number (V.now volume.old) (V.now volume.new) (V.may volume.old) (V.may volume.new) }
     ensures number { OnOk result (log.old.number ≤ log.new.number) }
-    ensures cause { HasCause (V.faults volume.old) (V.faults volume.new) result }
+    ensures cause { HasCause V.exact (V.faults volume.old) (V.faults volume.new) result }
 {
     match log.append(volume, entry) {
         Ok(_) => Ok(()),
@@ -57,7 +57,7 @@ pub(crate) fn force<V: Volume>(log: &mut Log, volume: &mut V) -> Result<(), Fail
         → OnOk result (volume.new ≡ volume.old) }
     ensures fails { V.told → (s : State) → HasTrail log.old (V.now volume.old) s → OnErr result (¬ (IsQuiet s (all_forced s))) }
     ensures others { V.told → ChangesFrom log.old.number (V.now volume.old) (V.now volume.new) (V.may volume.old) (V.may volume.new) }
-    ensures cause { HasCause (V.faults volume.old) (V.faults volume.new) result }
+    ensures cause { HasCause V.exact (V.faults volume.old) (V.faults volume.new) result }
 {
     match log.force(volume) {
         Ok(()) => Ok(()),

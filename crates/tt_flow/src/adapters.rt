@@ -36,6 +36,8 @@ impl<R: Read> Source for ReadSource<R> {
 
     ghost faults = { λ s. s.faults };
 
+    ghost exact = { Unit {0} };
+
     fn take(&mut self, buf: &mut [u8]) -> Result<usize, Failed> {
         match read_whole(&mut self.reader, buf) {
             Ok(count) => Ok(count),
@@ -61,6 +63,8 @@ impl<W: Write> Sink for WriteSink<W> {
     ghost given = { λ s. W.contents s.writer };
 
     ghost faults = { λ s. s.faults };
+
+    ghost exact = { Unit {0} };
 
     fn put(&mut self, piece: &[u8]) -> Result<(), Failed> {
         let count = write_front(&mut self.writer, piece);

@@ -93,7 +93,7 @@ impl LineReader {
         ensures fewer { IsLine result → bytes_to_come self.new < bytes_to_come self.old }
         ensures over { IsOver self.old → result ≡ Ok LineRead.ScriptTooLong }
         ensures stays { result ≡ Ok LineRead.ScriptTooLong → IsOver self.new }
-        ensures cause { HasCause (S.faults source.old) (S.faults source.new) result }
+        ensures cause { HasCause S.exact (S.faults source.old) (S.faults source.new) result }
     {
         if let Input::Over = self.input {
             return Ok(LineRead::ScriptTooLong);
@@ -115,7 +115,7 @@ impl LineReader {
             → Reads script given result line.new self.new (S.left source.new) }
         ensures fewer { IsLine result → bytes_to_come self.new < bytes_to_come self.old }
         ensures stays { result ≡ Ok LineRead.ScriptTooLong → IsOver self.new }
-        ensures cause { HasCause (S.faults source.old) (S.faults source.new) result }
+        ensures cause { HasCause S.exact (S.faults source.old) (S.faults source.new) result }
     {
         'pieces: loop {
             if let Some(answer) = self.next_piece(source, line)? {
@@ -137,7 +137,7 @@ impl LineReader {
         ensures bound { OnOk result (bytes_to_come self.new ≤ bytes_to_come self.old) }
         ensures fewer { IsPieceLine result → bytes_to_come self.new < bytes_to_come self.old }
         ensures stays { result ≡ Ok (Some LineRead.ScriptTooLong) → IsOver self.new }
-        ensures cause { HasCause (S.faults source.old) (S.faults source.new) result }
+        ensures cause { HasCause S.exact (S.faults source.old) (S.faults source.new) result }
     {
         let searched = self.drop_long();
         match self.fill(source)? {
@@ -226,7 +226,7 @@ impl LineReader {
         ensures more { result ≡ Ok Filled.More → self.old.taken < self.new.taken }
         ensures no_more { result ≡ Ok Filled.NoMore → (self.new.input ≡ Input.Ended) × (kept_bytes self.new ≡ kept_bytes self.old) }
         ensures too_many { result ≡ Ok Filled.TooMany → IsOver self.new }
-        ensures cause { HasCause (S.faults source.old) (S.faults source.new) result }
+        ensures cause { HasCause S.exact (S.faults source.old) (S.faults source.new) result }
     {
         match self.input {
             Input::Ended => Ok(Filled::NoMore),
@@ -265,7 +265,7 @@ impl LineReader {
         ensures took { (bytes : List ℕ) × Takes bytes result self.old self.new × Consumes (S.left source.old) (S.left source.new) bytes }
         ensures end { result ≡ Ok Filled.NoMore → IsAtEnd (S.left source.new) }
         ensures bound { bytes_to_come self.new ≤ bytes_to_come self.old }
-        ensures cause { HasCause (S.faults source.old) (S.faults source.new) result }
+        ensures cause { HasCause S.exact (S.faults source.old) (S.faults source.new) result }
     {
         let room = (BUFFER - self.end).min((SCRIPT_MOST - self.taken) as usize);
         let count = source.take(&mut self.buffer[self.end..self.end + room])?;
@@ -284,7 +284,7 @@ impl LineReader {
         ensures took { (bytes : List ℕ) × TakesPast bytes result self.old self.new × Consumes (S.left source.old) (S.left source.new) bytes }
         ensures end { result ≡ Ok Filled.NoMore → IsAtEnd (S.left source.new) }
         ensures bound { bytes_to_come self.new ≤ bytes_to_come self.old }
-        ensures cause { HasCause (S.faults source.old) (S.faults source.new) result }
+        ensures cause { HasCause S.exact (S.faults source.old) (S.faults source.new) result }
     {
         let mut one = [0];
         if source.take(&mut one)? == 0 {

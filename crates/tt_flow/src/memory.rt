@@ -41,6 +41,8 @@ impl Source for MemSource {
 
     ghost faults = { λ s. s.faults };
 
+    ghost exact = { Unit {0} };
+
     fn take(&mut self, buf: &mut [u8]) -> Result<usize, Failed> {
         let fails = self.failing.contains(&self.calls);
         self.calls = self.calls.saturating_add(1);
@@ -93,6 +95,8 @@ impl Sink for MemSink {
     ghost given = { λ s. Some (sink_given s) };
 
     ghost faults = { λ s. s.faults };
+
+    ghost exact = { Unit {0} };
 
     fn put(&mut self, piece: &[u8]) -> Result<(), Failed> {
         let planned = self.failing.contains(&self.calls);

@@ -99,7 +99,7 @@ impl GateFile {
             → LeavesAtMost 17 (V.may volume.new name) }
         ensures others { V.told → OnlyAt name (V.now volume.old) (V.now volume.new)
             (V.may volume.old) (V.may volume.new) }
-        ensures cause { HasCause (V.faults volume.old) (V.faults volume.new) result }
+        ensures cause { HasCause V.exact (V.faults volume.old) (V.faults volume.new) result }
     {
         volume.create(name)?;
         volume.write_at(name, 0, header)?;
@@ -131,7 +131,7 @@ impl GateFile {
             (λ file. IsReady file (V.now volume.new) (V.may volume.new)) }
         ensures keeps { V.told → Keeps (V.now volume.old) (V.now volume.new)
             (V.may volume.old) (V.may volume.new) }
-        ensures cause { RoseWhere (IsErrOf result GateRefusal.Failed) (V.faults volume.old)
+        ensures cause { RoseWhere V.exact (IsErrOf result GateRefusal.Failed) (V.faults volume.old)
             (V.faults volume.new) }
     {
         check_header(volume, name, header)?;
@@ -174,7 +174,7 @@ impl GateFile {
             → Leaves header bodies (V.may volume.new self.now.name) }
         ensures others { V.told → OnlyAt self.now.name (V.now volume.old) (V.now volume.new)
             (V.may volume.old) (V.may volume.new) }
-        ensures cause { HasCause (V.faults volume.old) (V.faults volume.new) result }
+        ensures cause { HasCause V.exact (V.faults volume.old) (V.faults volume.new) result }
     {
         if self.staged > 0 {
             return Ok(());
@@ -201,7 +201,7 @@ impl GateFile {
         ensures gate { self.new.gate ≡ self.old.gate }
         ensures count { OnOk result (self.new.staged ≡ self.old.staged + length piece.now) }
         ensures unmoved { OnErr result (StandsStill self.old self.new) }
-        ensures cause { HasCause (V.faults volume.old) (V.faults volume.new) result }
+        ensures cause { HasCause V.exact (V.faults volume.old) (V.faults volume.new) result }
     {
         self.make_place(volume)?;
         volume.write_at(self.name, self.gate + 9 + self.staged, piece)?;
@@ -222,7 +222,7 @@ impl GateFile {
             (V.may volume.old) (V.may volume.new) }
         ensures same { (self.new.name ≡ self.old.name) × (self.new.gate ≡ self.old.gate)
             × (self.new.staged ≡ self.old.staged) }
-        ensures cause { HasCause (V.faults volume.old) (V.faults volume.new) result }
+        ensures cause { HasCause V.exact (V.faults volume.old) (V.faults volume.new) result }
     {
         if self.settled {
             return Ok(());
@@ -257,7 +257,7 @@ impl GateFile {
         ensures count { OnOk result (self.new.staged ≡ self.old.staged + length piece.now) }
         ensures synced { OnOk result (IsSynced self.new) }
         ensures still { OnErr result (StandsStill self.old self.new) }
-        ensures cause { HasCause (V.faults volume.old) (V.faults volume.new) result }
+        ensures cause { HasCause V.exact (V.faults volume.old) (V.faults volume.new) result }
     {
         self.settle(volume)?;
         self.add_piece(volume, piece)
@@ -288,7 +288,7 @@ impl GateFile {
         ensures fresh { OnOk result (self.new.staged ≡ 0) }
         ensures synced { IsSynced self.old → IsSynced self.new }
         ensures still { OnErr result (StandsStill self.old self.new) }
-        ensures cause { HasCause (V.faults volume.old) (V.faults volume.new) result }
+        ensures cause { HasCause V.exact (V.faults volume.old) (V.faults volume.new) result }
     {
         self.close_batch(volume)
     }
@@ -325,7 +325,7 @@ impl GateFile {
         ensures still { OnErr result ((self.new.gate ≡ self.old.gate)
             × ((self.new.staged ≡ self.old.staged)
             ⊎ (self.new.staged ≡ self.old.staged + length body.now))) }
-        ensures cause { HasCause (V.faults volume.old) (V.faults volume.new) result }
+        ensures cause { HasCause V.exact (V.faults volume.old) (V.faults volume.new) result }
     {
         self.stage(volume, body)?;
         self.finish(volume)
@@ -356,7 +356,7 @@ impl GateFile {
         ensures still { self.new.settled ≡ self.old.settled }
         ensures fresh { OnOk result (self.new.staged ≡ 0) }
         ensures unmoved { OnErr result (StandsStill self.old self.new) }
-        ensures cause { HasCause (V.faults volume.old) (V.faults volume.new) result }
+        ensures cause { HasCause V.exact (V.faults volume.old) (V.faults volume.new) result }
     {
         let end = self.gate + 9 + self.staged;
         volume.write_at(self.name, self.gate + 1, &self.staged.to_be_bytes())?;

@@ -34,7 +34,7 @@ pub fn gate_at<V: Volume>(volume: &mut V, name: Name, at: u64) -> Result<Gate, G
     ensures inside { IfOk result (λ gate. EndsWithin at gate) }
     ensures keeps { V.told → Keeps (V.now volume.old) (V.now volume.new)
         (V.may volume.old) (V.may volume.new) }
-    ensures cause { RoseWhere (IsErrOf result GateRefusal.Failed) (V.faults volume.old)
+    ensures cause { RoseWhere V.exact (IsErrOf result GateRefusal.Failed) (V.faults volume.old)
         (V.faults volume.new) }
 {
     let Some(size) = volume.size(name)? else {
@@ -59,7 +59,7 @@ pub(crate) fn last_gate<V: Volume>(volume: &mut V, name: Name) -> Result<u64, Ga
     ensures bound { IfOk result (λ end. end < 2 ^ 62) }
     ensures keeps { V.told → Keeps (V.now volume.old) (V.now volume.new)
         (V.may volume.old) (V.may volume.new) }
-    ensures cause { RoseWhere (IsErrOf result GateRefusal.Failed) (V.faults volume.old)
+    ensures cause { RoseWhere V.exact (IsErrOf result GateRefusal.Failed) (V.faults volume.old)
         (V.faults volume.new) }
 {
     let mut gate = 16;
@@ -85,7 +85,7 @@ pub(crate) fn check_header<V: Volume>(
     ensures refused { V.told → IfErr result (λ e. IsSo header.now (V.now volume.old name) e) }
     ensures keeps { V.told → Keeps (V.now volume.old) (V.now volume.new)
         (V.may volume.old) (V.may volume.new) }
-    ensures cause { RoseWhere (IsErrOf result GateRefusal.Failed) (V.faults volume.old)
+    ensures cause { RoseWhere V.exact (IsErrOf result GateRefusal.Failed) (V.faults volume.old)
         (V.faults volume.new) }
 {
     let size = match volume.size(name)? {

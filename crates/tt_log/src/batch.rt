@@ -48,7 +48,7 @@ pub(crate) fn check_header<V: Volume>(volume: &mut V, number: u32) -> Result<(),
     ensures refused { V.told → IfErr result (λ e. (e ≡ Failed)
         ⊎ ((e ≡ Gap number) × (file_read number (V.now volume.old (LogFile number)) ≡ Err e))) }
     ensures keeps { V.told → Keeps (V.now volume.old) (V.now volume.new) (V.may volume.old) (V.may volume.new) }
-    ensures cause { RoseWhere (IsErrOf result Failed) (V.faults volume.old) (V.faults volume.new) }
+    ensures cause { RoseWhere V.exact (IsErrOf result Failed) (V.faults volume.old) (V.faults volume.new) }
 {
     let size = match volume.size(Name::Log(number))? {
         Some(size) => size,
@@ -71,7 +71,7 @@ fn gate_of<V: Volume>(volume: &mut V, number: u32, at: u64) -> Result<Gate, LogR
         ⊎ (result ≡ gate_for number (gate_in at (V.now volume.old (LogFile number)))) }
     ensures inside { IfOk result (λ gate. EndsWithin at gate) }
     ensures keeps { V.told → Keeps (V.now volume.old) (V.now volume.new) (V.may volume.old) (V.may volume.new) }
-    ensures cause { RoseWhere (IsErrOf result Failed) (V.faults volume.old) (V.faults volume.new) }
+    ensures cause { RoseWhere V.exact (IsErrOf result Failed) (V.faults volume.old) (V.faults volume.new) }
 {
     match gate_at(volume, Name::Log(number), at) {
         Ok(gate) => Ok(gate),
@@ -94,7 +94,7 @@ fn read_body<V: Volume>(
     ensures long { IfOk result (λ body. length body.items ≡ count) }
     ensures refused { IfErr result (λ e. (e ≡ Failed) ⊎ (e ≡ LogRefusal.NoMemory)) }
     ensures keeps { V.told → Keeps (V.now volume.old) (V.now volume.new) (V.may volume.old) (V.may volume.new) }
-    ensures cause { RoseWhere (IsErrOf result Failed) (V.faults volume.old) (V.faults volume.new) }
+    ensures cause { RoseWhere V.exact (IsErrOf result Failed) (V.faults volume.old) (V.faults volume.new) }
 {
     let mut body = vec![in alloc; 0; count as usize]?;
     let _ = volume.read_at(Name::Log(number), at, &mut body)?;
@@ -107,7 +107,7 @@ fn behind_turn<V: Volume>(volume: &mut V, number: u32, next: u64) -> Result<Batc
         ⊎ (result ≡ turned_by number next (gate_in next (V.now volume.old (LogFile number)))) }
     ensures turned { IfOk result (λ batch. batch ≡ Batch.Turned) }
     ensures keeps { V.told → Keeps (V.now volume.old) (V.now volume.new) (V.may volume.old) (V.may volume.new) }
-    ensures cause { RoseWhere (IsErrOf result Failed) (V.faults volume.old) (V.faults volume.new) }
+    ensures cause { RoseWhere V.exact (IsErrOf result Failed) (V.faults volume.old) (V.faults volume.new) }
 {
     match gate_of(volume, number, next)? {
         Gate::Closed => Ok(Batch::Turned),
@@ -135,7 +135,7 @@ fn judge<V: Volume>(
     ensures gate { V.told → IfOk result (λ batch. GateSays gate (V.now volume.old (LogFile number)) batch) }
     ensures within { IfOk result (λ batch. IsWithin number gate offset batch) }
     ensures keeps { V.told → Keeps (V.now volume.old) (V.now volume.new) (V.may volume.old) (V.may volume.new) }
-    ensures cause { RoseWhere (IsErrOf result Failed) (V.faults volume.old) (V.faults volume.new) }
+    ensures cause { RoseWhere V.exact (IsErrOf result Failed) (V.faults volume.old) (V.faults volume.new) }
 {
     match body_of(alloc, number, &body)? {
         Body::Bad => Err(LogRefusal::BadBatch {
@@ -173,7 +173,7 @@ fn read_full<V: Volume>(
     ensures gate { V.told → IfOk result (λ batch. GateSays gate (V.now volume.old (LogFile number)) batch) }
     ensures within { IfOk result (λ batch. IsWithin number gate offset batch) }
     ensures keeps { V.told → Keeps (V.now volume.old) (V.now volume.new) (V.may volume.old) (V.may volume.new) }
-    ensures cause { RoseWhere (IsErrOf result Failed) (V.faults volume.old) (V.faults volume.new) }
+    ensures cause { RoseWhere V.exact (IsErrOf result Failed) (V.faults volume.old) (V.faults volume.new) }
 {
     match read_body(alloc, volume, number, gate + 9, count) {
         Ok(body) => judge(alloc, volume, number, gate, offset, body),
@@ -195,7 +195,7 @@ pub(crate) fn read_batch<V: Volume>(
     ensures gate { V.told → IfOk result (λ batch. GateSays gate (V.now volume.old (LogFile number)) batch) }
     ensures within { IfOk result (λ batch. IsWithin number gate offset batch) }
     ensures keeps { V.told → Keeps (V.now volume.old) (V.now volume.new) (V.may volume.old) (V.may volume.new) }
-    ensures cause { RoseWhere (IsErrOf result Failed) (V.faults volume.old) (V.faults volume.new) }
+    ensures cause { RoseWhere V.exact (IsErrOf result Failed) (V.faults volume.old) (V.faults volume.new) }
 {
     match gate_of(volume, number, gate) {
         Ok(Gate::Closed) => Ok(Batch::Closed),

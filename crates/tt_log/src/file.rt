@@ -113,7 +113,7 @@ fn go_on<V: Volume, T: Taker>(
     ensures given { V.told → TakesOn number (T.took taker.old) (T.took taker.new) at
         (V.now volume.old (LogFile number)) result }
     ensures keeps { V.told → Keeps (V.now volume.old) (V.now volume.new) (V.may volume.old) (V.may volume.new) }
-    ensures cause { RoseWhere (IsErrOf result Failed) (V.faults volume.old) (V.faults volume.new) }
+    ensures cause { RoseWhere V.exact (IsErrOf result Failed) (V.faults volume.old) (V.faults volume.new) }
 {
     match read_batch(alloc, volume, number, at.gate, at.offset) {
         Ok(Batch::Closed) => Ok(Went::Ends(end_at(at, wanted, false))),
@@ -141,7 +141,7 @@ fn read_batches<V: Volume, T: Taker>(
     ensures closed { V.told → IfOk result (λ end. Closes (V.now volume.old (LogFile number)) end) }
     ensures within { IfOk result (λ end. IsInRange number end) }
     ensures keeps { V.told → Keeps (V.now volume.old) (V.now volume.new) (V.may volume.old) (V.may volume.new) }
-    ensures cause { RoseWhere (IsErrOf result Failed) (V.faults volume.old) (V.faults volume.new) }
+    ensures cause { RoseWhere V.exact (IsErrOf result Failed) (V.faults volume.old) (V.faults volume.new) }
 {
     let mut at = Reached {
         gate: 16,
@@ -171,7 +171,7 @@ pub(crate) fn read_file<V: Volume, T: Taker>(
     ensures closed { V.told → IfOk result (λ end. Closes (V.now volume.old (LogFile number)) end) }
     ensures within { IfOk result (λ end. IsInRange number end) }
     ensures keeps { V.told → Keeps (V.now volume.old) (V.now volume.new) (V.may volume.old) (V.may volume.new) }
-    ensures cause { RoseWhere (IsErrOf result Failed) (V.faults volume.old) (V.faults volume.new) }
+    ensures cause { RoseWhere V.exact (IsErrOf result Failed) (V.faults volume.old) (V.faults volume.new) }
 {
     match check_header(volume, number) {
         Ok(()) => read_batches(alloc, volume, number, wanted, taker),

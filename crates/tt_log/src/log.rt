@@ -106,7 +106,7 @@ impl Log {
         ensures short { V.told → LeavesAtMost 17 (V.may volume.old (LogFile 0)) → (files : Files) → MayLeave (V.may volume.new) files
             → (found : Found) → log_of 0 files ≡ Ok found → found ≡ nothing }
         ensures alone { V.told → OnOk result ((k : ℕ) → 0 < k → k < 2 ^ 32 → V.now volume.new (LogFile k) ≡ None) }
-        ensures cause { HasCause (V.faults volume.old) (V.faults volume.new) result }
+        ensures cause { HasCause V.exact (V.faults volume.old) (V.faults volume.new) result }
     {
         remove_logs(volume, 0, 1 << 32)?;
         let _ = GateFile::make(volume, Name::Log(0), &header(0))?;
@@ -142,7 +142,7 @@ impl Log {
         ensures force { IfOk result (λ log. log.force ≡ write_of log) }
         ensures sizes { IfOk result (λ log. (log.file_size ≡ log_file_size) × (length log.buffer.items ≡ log_buf_size)) }
         ensures keeps { V.told → Keeps (V.now volume.old) (V.now volume.new) (V.may volume.old) (V.may volume.new) }
-        ensures cause { RoseWhere (IsErrOf result LogRefusal.Failed) (V.faults volume.old) (V.faults volume.new) }
+        ensures cause { RoseWhere V.exact (IsErrOf result LogRefusal.Failed) (V.faults volume.old) (V.faults volume.new) }
     {
         Log::start_giving(
             alloc,
@@ -181,7 +181,7 @@ impl Log {
         ensures force { IfOk result (λ log. log.force ≡ write_of log) }
         ensures sizes { IfOk result (λ log. (log.file_size ≡ log_file_size) × (length log.buffer.items ≡ log_buf_size)) }
         ensures keeps { V.told → Keeps (V.now volume.old) (V.now volume.new) (V.may volume.old) (V.may volume.new) }
-        ensures cause { RoseWhere (IsErrOf result LogRefusal.Failed) (V.faults volume.old) (V.faults volume.new) }
+        ensures cause { RoseWhere V.exact (IsErrOf result LogRefusal.Failed) (V.faults volume.old) (V.faults volume.new) }
     {
         let end = match find_entries(alloc, volume, from, taker) {
             Ok(end) => end,
@@ -264,7 +264,7 @@ impl Log {
             (V.may volume.old) (V.may volume.new) }
         ensures quiet { self.old.used ≡ 0 → volume.new ≡ volume.old }
         ensures fails { OnErr result (0 < self.old.used) }
-        ensures cause { HasCause (V.faults volume.old) (V.faults volume.new) result }
+        ensures cause { HasCause V.exact (V.faults volume.old) (V.faults volume.new) result }
     {
         let end = self.write_position();
         if self.used == 0 {
@@ -303,7 +303,7 @@ impl Log {
         ensures files { V.told → OnOk result (AddsNone (V.now volume.old) (V.now volume.new)) }
         ensures quiet { waiting_bytes self.old ≡ 0 → volume.new ≡ volume.old }
         ensures fails { OnErr result (0 < waiting_bytes self.old) }
-        ensures cause { HasCause (V.faults volume.old) (V.faults volume.new) result }
+        ensures cause { HasCause V.exact (V.faults volume.old) (V.faults volume.new) result }
     {
         self.write_out(volume)?;
         Ok(())
@@ -328,7 +328,7 @@ impl Log {
             (V.may volume.old) (V.may volume.new) }
         ensures others { V.told → OnlyTwo (LogFile self.old.number) (LogFile (self.old.number + 1))
             (V.now volume.old) (V.now volume.new) (V.may volume.old) (V.may volume.new) }
-        ensures cause { HasCause (V.faults volume.old) (V.faults volume.new) result }
+        ensures cause { HasCause V.exact (V.faults volume.old) (V.faults volume.new) result }
     {
         self.write_out(volume)?; // before the next file is made
         let next = self.number + 1;
@@ -371,7 +371,7 @@ impl Log {
         ensures files { V.told → OnOk result (AddsFile ((write_of self.new).file) (V.now volume.old) (V.now volume.new)) }
         ensures quiet { moves self.old entry.now ≡ false → volume.new ≡ volume.old }
         ensures fails { OnErr result (moves self.old entry.now ≡ true) }
-        ensures cause { HasCause (V.faults volume.old) (V.faults volume.new) result }
+        ensures cause { HasCause V.exact (V.faults volume.old) (V.faults volume.new) result }
     {
         let length = entry_length(entry);
         if self.base as u64 + self.used as u64 + length > self.file_size as u64 {
@@ -452,7 +452,7 @@ impl Log {
         ensures files { V.told → IfOk result (λ at. AddsFile at.file (V.now volume.old) (V.now volume.new)) }
         ensures quiet { moves self.old entry.now ≡ false → volume.new ≡ volume.old }
         ensures fails { OnErr result (moves self.old entry.now ≡ true) }
-        ensures cause { HasCause (V.faults volume.old) (V.faults volume.new) result }
+        ensures cause { HasCause V.exact (V.faults volume.old) (V.faults volume.new) result }
     {
         self.make_room(volume, entry)?;
         let at = self.write_position();
@@ -492,7 +492,7 @@ impl Log {
             × (length self.new.buffer.items ≡ length self.old.buffer.items) }
         ensures others { V.told → OnlyBetween 0 (2 ^ 32) (V.now volume.old) (V.now volume.new)
             (V.may volume.old) (V.may volume.new) }
-        ensures cause { HasCause (V.faults volume.old) (V.faults volume.new) result }
+        ensures cause { HasCause V.exact (V.faults volume.old) (V.faults volume.new) result }
     {
         self.first = self.first.max(file);
         remove_logs(volume, 0, file as u64)?;

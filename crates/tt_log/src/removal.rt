@@ -19,7 +19,7 @@ pub(crate) fn remove_logs<V: Volume>(volume: &mut V, from: u32, end: u64) -> Res
     // A crash leaves of each log file what it could leave before, or none.
     ensures crash { V.told → (k : ℕ) (c : Option (List ℕ)) → V.may volume.new (LogFile k) c
         → V.may volume.old (LogFile k) c ⊎ (c ≡ None) }
-    ensures cause { HasCause (V.faults volume.old) (V.faults volume.new) result }
+    ensures cause { HasCause V.exact (V.faults volume.old) (V.faults volume.new) result }
 {
     let mut at = from as u64;
     'logs: while at < end {

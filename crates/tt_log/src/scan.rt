@@ -88,7 +88,7 @@ impl Scan {
             × (self.new.offset ≡ self.old.offset) × (self.new.body ≡ self.old.body) × (self.new.at ≡ self.old.at) }
         ensures refused { V.told → IfErr result (λ e. e ≡ Failed) }
         ensures keeps { V.told → Keeps (V.now volume.old) (V.now volume.new) (V.may volume.old) (V.may volume.new) }
-        ensures cause { RoseWhere (IsErrOf result Failed) (V.faults volume.old) (V.faults volume.new) }
+        ensures cause { RoseWhere V.exact (IsErrOf result Failed) (V.faults volume.old) (V.faults volume.new) }
     {
         if self.begun {
             return Ok(());
@@ -157,7 +157,7 @@ impl Scan {
         ensures still { IfErr result (λ e. self.new ≡ self.old) }
         ensures refused { V.told → IfErr result (λ e. (e ≡ Failed) ⊎ (e ≡ NoMemory)) }
         ensures keeps { V.told → Keeps (V.now volume.old) (V.now volume.new) (V.may volume.old) (V.may volume.new) }
-        ensures cause { RoseWhere (IsErrOf result Failed) (V.faults volume.old) (V.faults volume.new) }
+        ensures cause { RoseWhere V.exact (IsErrOf result Failed) (V.faults volume.old) (V.faults volume.new) }
     {
         let alloc = *self.body.allocator();
         match read_batch(alloc, volume, self.file, self.gate, self.offset) {
@@ -191,7 +191,7 @@ impl Scan {
         ensures file { self.new.file < 1000000 }
         ensures refused { V.told → IfErr result (λ e. (e ≡ Failed) ⊎ (e ≡ NoMemory)) }
         ensures keeps { V.told → Keeps (V.now volume.old) (V.now volume.new) (V.may volume.old) (V.may volume.new) }
-        ensures cause { RoseWhere (IsErrOf result Failed) (V.faults volume.old) (V.faults volume.new) }
+        ensures cause { RoseWhere V.exact (IsErrOf result Failed) (V.faults volume.old) (V.faults volume.new) }
     {
         match self.enter(volume) {
             Ok(()) => self.load(volume),
@@ -213,7 +213,7 @@ impl Scan {
         ensures file { self.new.file < 1000000 }
         ensures refused { V.told → IfErr result (λ e. (e ≡ Failed) ⊎ (e ≡ NoMemory)) }
         ensures keeps { V.told → Keeps (V.now volume.old) (V.now volume.new) (V.may volume.old) (V.may volume.new) }
-        ensures cause { RoseWhere (IsErrOf result Failed) (V.faults volume.old) (V.faults volume.new) }
+        ensures cause { RoseWhere V.exact (IsErrOf result Failed) (V.faults volume.old) (V.faults volume.new) }
     {
         'files: loop {
             match self.enter_and_load(volume) {
@@ -238,7 +238,7 @@ impl Scan {
         ensures file { self.new.file < 1000000 }
         ensures refused { V.told → IfErr result (λ e. (e ≡ Failed) ⊎ (e ≡ NoMemory)) }
         ensures keeps { V.told → Keeps (V.now volume.old) (V.now volume.new) (V.may volume.old) (V.may volume.new) }
-        ensures cause { RoseWhere (IsErrOf result Failed) (V.faults volume.old) (V.faults volume.new) }
+        ensures cause { RoseWhere V.exact (IsErrOf result Failed) (V.faults volume.old) (V.faults volume.new) }
     {
         if self.at < self.body.len() {
             return Ok(true);
@@ -339,7 +339,7 @@ impl Scan {
         ensures refused { V.told → IfErr result (λ e. (e ≡ Failed) ⊎ (e ≡ NoMemory)) }
         ensures from { self.new.from ≡ self.old.from }
         ensures keeps { V.told → Keeps (V.now volume.old) (V.now volume.new) (V.may volume.old) (V.may volume.new) }
-        ensures cause { RoseWhere (IsErrOf result Failed) (V.faults volume.old) (V.faults volume.new) }
+        ensures cause { RoseWhere V.exact (IsErrOf result Failed) (V.faults volume.old) (V.faults volume.new) }
     {
         if self.file > log.current() {
             return Ok(None);
@@ -363,7 +363,7 @@ impl Scan {
         ensures refused { V.told → IfErr result (λ e. (e ≡ Failed) ⊎ (e ≡ NoMemory)) }
         ensures from { self.new.from ≡ self.old.from }
         ensures keeps { V.told → Keeps (V.now volume.old) (V.now volume.new) (V.may volume.old) (V.may volume.new) }
-        ensures cause { RoseWhere (IsErrOf result Failed) (V.faults volume.old) (V.faults volume.new) }
+        ensures cause { RoseWhere V.exact (IsErrOf result Failed) (V.faults volume.old) (V.faults volume.new) }
     {
         'entries: loop {
             match self.more(volume) {

@@ -46,7 +46,7 @@ fn follow<V: Volume, T: Taker>(
     ensures closed { V.told → IfOk result (λ end. IsGateEnd (V.now volume.old (LogFile end.at.file)) end.gate) }
     ensures within { IfOk result (λ end. IsLogEndInRange number end) }
     ensures keeps { V.told → Keeps (V.now volume.old) (V.now volume.new) (V.may volume.old) (V.may volume.new) }
-    ensures cause { RoseWhere (IsErrOf result Failed) (V.faults volume.old) (V.faults volume.new) }
+    ensures cause { RoseWhere V.exact (IsErrOf result Failed) (V.faults volume.old) (V.faults volume.new) }
 {
     let mut file = number;
     let mut end = end;
@@ -85,7 +85,7 @@ fn follow_from<V: Volume, T: Taker>(
     ensures closed { V.told → IfOk result (λ end. IsGateEnd (V.now volume.old (LogFile end.at.file)) end.gate) }
     ensures within { IfOk result (λ end. IsLogEndInRange from.file end) }
     ensures keeps { V.told → Keeps (V.now volume.old) (V.now volume.new) (V.may volume.old) (V.may volume.new) }
-    ensures cause { RoseWhere (IsErrOf result Failed) (V.faults volume.old) (V.faults volume.new) }
+    ensures cause { RoseWhere V.exact (IsErrOf result Failed) (V.faults volume.old) (V.faults volume.new) }
 {
     match follow(alloc, volume, from.file, first, taker) {
         Ok(end) => {
@@ -115,7 +115,7 @@ pub(crate) fn find_entries<V: Volume, T: Taker>(
     ensures closed { V.told → IfOk result (λ end. IsGateEnd (V.now volume.old (LogFile end.at.file)) end.gate) }
     ensures within { IfOk result (λ end. IsLogEndInRange from.file end) }
     ensures keeps { V.told → Keeps (V.now volume.old) (V.now volume.new) (V.may volume.old) (V.may volume.new) }
-    ensures cause { RoseWhere (IsErrOf result Failed) (V.faults volume.old) (V.faults volume.new) }
+    ensures cause { RoseWhere V.exact (IsErrOf result Failed) (V.faults volume.old) (V.faults volume.new) }
 {
     if from.file >= LOG_FILES_END {
         return Err(LogRefusal::Gap { file: from.file });

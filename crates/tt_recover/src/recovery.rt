@@ -51,7 +51,7 @@ pub fn recover<V: Volume>(
     ensures force { IfOk result (λ r. r.log.force ≡ write_of r.log) }
     ensures sizes { IfOk result (λ r. (r.log.file_size ≡ log_file_size) × (length r.log.buffer.items ≡ log_buf_size)) }
     ensures keeps { V.told → Keeps (V.now volume.old) (V.now volume.new) (V.may volume.old) (V.may volume.new) }
-    ensures cause { RoseWhere (IsErrOf result Failed) (V.faults volume.old) (V.faults volume.new) }
+    ensures cause { RoseWhere V.exact (IsErrOf result Failed) (V.faults volume.old) (V.faults volume.new) }
 {
     let origin = Position { file: 0, offset: 0 };
     let mut progress = Progress::new(alloc);

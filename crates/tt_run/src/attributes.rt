@@ -58,7 +58,7 @@ fn fill<A: Source>(source: &mut A, buffer: &mut [u8]) -> Result<usize, Failed>
     ensures long { length buffer.new ≡ length buffer.old }
     ensures bytes { (text : List ℕ) → A.left source.old ≡ Some text
         → IfOk result (λ n. take n buffer.new ≡ take (length buffer.old) text) }
-    ensures cause { HasCause (A.faults source.old) (A.faults source.new) result }
+    ensures cause { HasCause A.exact (A.faults source.old) (A.faults source.new) result }
 {
     let mut used = 0;
     'pieces: while used < buffer.len() {
@@ -82,7 +82,7 @@ fn take_behind<A: Source>(source: &mut A, buffer: &mut [u8], used: usize) -> Res
     ensures bytes { (left : List ℕ) → A.left source.old ≡ Some left
         → IfOk result (λ n. (rest : List ℕ) × (A.left source.new ≡ Some rest)
         × (take (used + n) buffer.new ++ rest ≡ take used buffer.old ++ left) × (n ≡ 0 → rest ≡ [])) }
-    ensures cause { HasCause (A.faults source.old) (A.faults source.new) result }
+    ensures cause { HasCause A.exact (A.faults source.old) (A.faults source.new) result }
 {
     source.take(&mut buffer[used..])
 }

@@ -328,7 +328,7 @@ fn put_reply<K: Sink>(sink: &mut K, reply: Reply) -> Result<(), Failed>
     requires { IsGiven reply }
     ensures whole { OnOk result (Appends (K.given sink.old) (K.given sink.new) (text_of reply)) }
     ensures prefix { OnErr result ((n : ℕ) × Appends (K.given sink.old) (K.given sink.new) (take n (text_of reply))) }
-    ensures cause { HasCause (K.faults sink.old) (K.faults sink.new) result }
+    ensures cause { HasCause K.exact (K.faults sink.old) (K.faults sink.new) result }
 {
     let text = reply_text(&reply);
     sink.put(text.as_slice())
@@ -344,7 +344,7 @@ fn next_line<S: Source>(
     ensures read { (bytes : Option (List ℕ)) (given : List (Option (List ℕ))) → IsGivenOf bytes given reader.old (S.left script.old)
         → IsNext bytes given result reader.new (S.left script.new) }
     ensures fewer { IfOk result (λ next. IsLine next → bytes_to_come reader.new < bytes_to_come reader.old) }
-    ensures cause { HasCause (S.faults script.old) (S.faults script.new) result }
+    ensures cause { HasCause S.exact (S.faults script.old) (S.faults script.new) result }
 {
     match reader.next(script, line) {
         Ok(LineRead::Line) => Ok(match read_request(alloc, line.line()) {

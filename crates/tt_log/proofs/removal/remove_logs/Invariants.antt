@@ -1,6 +1,7 @@
 use Rattle.std.proofs.Common.{◌≡◌, ◌⊎◌, ◌≤◌, ◌<◌, ◌-◌, ℕ, List, Option, None}
 use Rattle.tt_disk.specs.declared.volume.Name.TheVariants.{Log as LogFile}
 use Rattle.tt_log.specs.Logs.{OnlyBetween}
+use Rattle.tt_disk.specs.Causes.{Stays}
 use Rattle.tt_log.proofs.removal.remove_logs.Given as goal
 
 abbrev pub decreases-logs : goal.decreases-logs
@@ -9,7 +10,8 @@ decreases-logs g l = l.end - l.at
 abbrev pub invariant-logs : goal.invariant-logs
 invariant-logs g l = record {
   above : l.from ≤ l.at;
-  stays : g.V.Volume.faults l.volume ≡ g.V.Volume.faults l.initial.volume;
+  later : g.V.Volume.faults l.initial.volume ≤ g.V.Volume.faults l.volume;
+  stays : Stays g.V.Volume.exact (g.V.Volume.faults l.initial.volume) (g.V.Volume.faults l.volume);
   gone : g.V.Volume.told → (k : ℕ) → l.from ≤ k → k < l.at → g.V.Volume.now l.volume (LogFile k) ≡ None;
   ahead : g.V.Volume.told → (k : ℕ) → l.at ≤ k → g.V.Volume.now l.volume (LogFile k) ≡ g.V.Volume.now l.initial.volume (LogFile k);
   crash : g.V.Volume.told → (k : ℕ) (c : Option (List ℕ)) → g.V.Volume.may l.volume (LogFile k) c → g.V.Volume.may l.initial.volume (LogFile k) c ⊎ (c ≡ None);

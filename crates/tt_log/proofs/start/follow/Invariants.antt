@@ -1,10 +1,11 @@
-use Rattle.std.proofs.Common.{◌≡◌, ◌≤◌, ◌<◌, ◌-◌}
+use Rattle.std.proofs.Common.{◌≤◌, ◌<◌, ◌-◌}
 use Rattle.tt_disk.specs.declared.volume.Name.TheVariants.{Log as LogFile}
 use Rattle.tt_disk.specs.Volume.{Keeps}
 use Rattle.tt_log.specs.Walk.{file_read}
 use Rattle.tt_log.specs.Ends.{IsEnd, IsInRange, Closes}
 use Rattle.tt_log.proofs.Following.{GoneTo}
 use Rattle.tt_log.proofs.Taking.{TakesFiles}
+use Rattle.tt_disk.specs.Causes.{Stays}
 use Rattle.tt_log.proofs.start.follow.Given as goal
 
 abbrev pub decreases-files : goal.decreases-files
@@ -15,7 +16,8 @@ invariant-files g l = record {
   onward : l.number ≤ l.file;
   below : l.file < 1000000;
   range : IsInRange l.file l.end;
-  stays : g.V.Volume.faults l.volume ≡ g.V.Volume.faults l.initial.volume;
+  later : g.V.Volume.faults l.initial.volume ≤ g.V.Volume.faults l.volume;
+  stays : Stays g.V.Volume.exact (g.V.Volume.faults l.initial.volume) (g.V.Volume.faults l.volume);
   keeps : g.V.Volume.told → Keeps (g.V.Volume.now l.initial.volume) (g.V.Volume.now l.volume) (g.V.Volume.may l.initial.volume) (g.V.Volume.may l.volume);
   gone : g.V.Volume.told → GoneTo l.number l.file (g.V.Volume.now l.initial.volume);
   closed : g.V.Volume.told → Closes (g.V.Volume.now l.initial.volume (LogFile l.file)) l.end;

@@ -26,5 +26,6 @@ pieces-preserved g c =
           (c.in_ok-answer.ensures.read script told.0 given told.1 told.2)
           );
       bound = omega (arith, c.in_ok-answer.ensures.bound, c.pieces.invariant.bound);
-      stays = c.in_ok-answer.ensures.cause.stays ∙ c.pieces.invariant.stays;
+      later = omega (arith, c.next_piece.ensures.cause.later, c.pieces.invariant.later);
+      stays = λ exact. c.in_ok-answer.ensures.cause.stays exact ∙ c.pieces.invariant.stays exact;
     }

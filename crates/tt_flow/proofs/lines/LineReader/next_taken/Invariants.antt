@@ -1,5 +1,6 @@
 use Rattle.std.proofs.Common.{◌≡◌, ◌≤◌, ◌-◌, ◌^◌, ℕ, List, Option, Some}
 use Rattle.tt_flow.specs.Reading.{HasGiven, HasGivenTold, HasNoFeed, bytes_to_come, kept_bytes}
+use Rattle.tt_disk.specs.Causes.{Stays}
 use Rattle.tt_flow.proofs.lines.LineReader.next_taken.Given as goal
 
 abbrev pub invariant-pieces : goal.invariant-pieces
@@ -8,7 +9,8 @@ invariant-pieces g l = record {
   given : (script left : List ℕ) (given : List (Option (List ℕ))) → g.S.Source.left l.initial.source ≡ Some left → HasGiven script given l.initial.self left
       → HasGivenTold script given l.self (g.S.Source.left l.source);
   bound : bytes_to_come l.self ≤ bytes_to_come l.initial.self;
-  stays : g.S.Source.faults l.source ≡ g.S.Source.faults l.initial.source;
+  later : g.S.Source.faults l.initial.source ≤ g.S.Source.faults l.source;
+  stays : Stays g.S.Source.exact (g.S.Source.faults l.initial.source) (g.S.Source.faults l.source);
 }
 
 abbrev pub decreases-pieces : goal.decreases-pieces
