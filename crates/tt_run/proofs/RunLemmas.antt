@@ -5,6 +5,7 @@ use Rattle.std.proofs.lemmas.List.{map-append}
 use Rattle.std.proofs.lemmas.Grind.{flat_map-append}
 use Rattle.std.specs.Io.KnownBytes.{Appends}
 use Rattle.std.specs.List.{filter}
+use Rattle.tt_disk.specs.Causes.{Stays}
 use Rattle.tt_disk.specs.Volume.{Keeps}
 use Rattle.tt_disk.specs.declared.volume.Name.{Name}
 use Rattle.tt_disk.specs.declared.volume.Failed.{Failed}
@@ -458,7 +459,7 @@ begins_run now may e start script before reader given stands holds = record {
 
 -- ---- counts of faults
 
--- a count is as it was behind a line with which the run doesn't end
-pub count_goes_on : (status : Status) (before now : ℕ) → (None ≡ Some status) ⊎ (now ≡ before) → now ≡ before
-count_goes_on status before now (inl ended) = let none : ⊥ = cc in absurd none
-count_goes_on status before now (inr same) = same
+-- an exact count is as it was behind a line with which the run doesn't end
+pub count_goes_on : (status : Status) (exact : Type 0) (before now : ℕ) → (None ≡ Some status) ⊎ Stays exact before now → Stays exact before now
+count_goes_on status exact before now (inl ended) = let none : ⊥ = cc in absurd none
+count_goes_on status exact before now (inr same) = same

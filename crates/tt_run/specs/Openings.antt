@@ -45,7 +45,7 @@ IsFaultOf (VolumeFault Images) script attributes sink logs images backups = imag
 IsFaultOf (VolumeFault Backups) script attributes sink logs images backups = backups
 IsFaultOf _ script attributes sink logs images backups = Unit {0}
 
--- each count of faults is as it was, unless the status names its device
+-- this is so of each count of faults, unless the status names its device
 pub record OthersStay (status : Status) (script attributes sink logs : Type 0) : Type 0 where
   pub script_stays : (status ≡ ScriptFault) ⊎ script
   pub attributes_stay : (status ≡ AttributesFault) ⊎ attributes

@@ -1,6 +1,6 @@
 // The settings that a source of attributes gives.
 ghost use Rattle.std.specs.Prelude.{◌≡◌, ◌⊎◌, ◌≤◌, ◌+◌, ◌++◌, ◌<◌, [], length, take, List, ℕ, Result, Some, IfOk, IfErr, IsErrOf};
-ghost use Rattle.tt_disk.specs.Causes.{HasCause, RoseWhere, Rose};
+ghost use Rattle.tt_disk.specs.Causes.{HasCause, RoseWhere, Rose, Stays};
 ghost use Rattle.tt_set.specs.Attributes.{AreInRange, Says};
 ghost use Rattle.tt_set.specs.declared.settings.Settings.{Settings};
 ghost use Rattle.tt_run.specs.Settings.{IsFrom, IsSaid, IsReadEnd, IsUnread};
@@ -21,7 +21,7 @@ pub(crate) fn settings_of<A: Source>(alloc: Global, attributes: &mut A) -> Resul
     ensures only { (text : List ℕ) (said : Result Settings (List ℕ)) → A.left attributes.old ≡ Some text → Says text said
         → IsSaid said result }
     ensures cause { IsReadEnd result (Rose (A.faults attributes.old) (A.faults attributes.new)) }
-    ensures stays { IsErrOf result Status.AttributesFault ⊎ (A.faults attributes.new ≡ A.faults attributes.old) }
+    ensures stays { IsErrOf result Status.AttributesFault ⊎ Stays A.exact (A.faults attributes.old) (A.faults attributes.new) }
 {
     let text = match read_text(alloc, attributes, READ_MAX) {
         Ok(text) => text,
@@ -38,7 +38,7 @@ pub(crate) fn settings_of<A: Source>(alloc: Global, attributes: &mut A) -> Resul
 fn read_text<A: Source>(alloc: Global, attributes: &mut A, most: usize) -> Result<Vec<u8>, Status>
     ensures bytes { (text : List ℕ) → A.left attributes.old ≡ Some text → IfOk result (λ read. read.items ≡ take most text) }
     ensures refused { IfErr result (λ status. IsUnread status (Rose (A.faults attributes.old) (A.faults attributes.new))) }
-    ensures stays { IsErrOf result Status.AttributesFault ⊎ (A.faults attributes.new ≡ A.faults attributes.old) }
+    ensures stays { IsErrOf result Status.AttributesFault ⊎ Stays A.exact (A.faults attributes.old) (A.faults attributes.new) }
 {
     let mut text = match vec![in alloc; 0; most] {
         Ok(text) => text,

@@ -1,7 +1,7 @@
 // The top call.
 ghost use Rattle.std.specs.Prelude.{◌^◌, length, ◌≡◌, ◌≢◌, ◌<◌, ◌≤◌, ◌⊎◌, ◌↔◌, ℕ, List, Option, Some, None, Result, Ok, Err, IsSome, OnOk, OnErr, take, IfOk, IfSome, IfNone, map, string_bytes};
 ghost use Rattle.std.specs.Io.KnownBytes.{Appends};
-ghost use Rattle.tt_disk.specs.Causes.{HasCause, Rose};
+ghost use Rattle.tt_disk.specs.Causes.{HasCause, Rose, Stays};
 ghost use Rattle.tt_disk.specs.Volume.{Keeps};
 ghost use Rattle.tt_flow.specs.Reading.{bytes_to_come};
 ghost use Rattle.tt_set.specs.Attributes.{AreInRange, Says};
@@ -142,9 +142,10 @@ pub fn run<
         (Rose (L.faults logs.old) (L.faults logs.new)) (Rose (C.faults images.old) (C.faults images.new))
         (Rose (B.faults backups.old) (B.faults backups.new)) }
 
-    // No other count rises: where a call failed, the status names its device.
-    ensures others { OthersStay result (S.faults script.new ≡ S.faults script.old) (A.faults attributes.new ≡ A.faults attributes.old)
-        (K.faults sink.new ≡ K.faults sink.old) (L.faults logs.new ≡ L.faults logs.old) }
+    // No other count rises, if it is exact: where a call failed, the status names its device.
+    ensures others { OthersStay result (Stays S.exact (S.faults script.old) (S.faults script.new))
+        (Stays A.exact (A.faults attributes.old) (A.faults attributes.new))
+        (Stays K.exact (K.faults sink.old) (K.faults sink.new)) (Stays L.exact (L.faults logs.old) (L.faults logs.new)) }
 {
     let _ = rt;
     let _ = images;
@@ -172,8 +173,8 @@ fn create<K: Sink, L: Volume>(sink: &mut K, logs: &mut L) -> Status
     ensures unbegun { IsBeforeLines result (result ≡ Status.LogOut) → (sink.new ≡ sink.old)
         × (L.told → Keeps (L.now logs.old) (L.now logs.new) (L.may logs.old) (L.may logs.new)) }
     ensures statuses { IsCreateEnd result (Rose (K.faults sink.old) (K.faults sink.new)) (Rose (L.faults logs.old) (L.faults logs.new)) }
-    ensures sink_stays { (result ≡ Status.SinkFault) ⊎ (K.faults sink.new ≡ K.faults sink.old) }
-    ensures logs_stay { (result ≡ Status.VolumeFault Stop.Logs) ⊎ (L.faults logs.new ≡ L.faults logs.old) }
+    ensures sink_stays { (result ≡ Status.SinkFault) ⊎ Stays K.exact (K.faults sink.old) (K.faults sink.new) }
+    ensures logs_stay { (result ≡ Status.VolumeFault Stop.Logs) ⊎ Stays L.exact (L.faults logs.old) (L.faults logs.new) }
 {
     match logs.size(Name::Log(0)) {
         Ok(None) => {}
@@ -211,9 +212,9 @@ fn run_script<S: Source, K: Sink, L: Volume>(
         × (L.told → Keeps (L.now logs.old) (L.now logs.new) (L.may logs.old) (L.may logs.new)) }
     ensures statuses { IsScriptRunEnd result (Rose (S.faults script.old) (S.faults script.new))
         (Rose (K.faults sink.old) (K.faults sink.new)) (Rose (L.faults logs.old) (L.faults logs.new)) }
-    ensures script_stays { (result ≡ Status.ScriptFault) ⊎ (S.faults script.new ≡ S.faults script.old) }
-    ensures sink_stays { (result ≡ Status.SinkFault) ⊎ (K.faults sink.new ≡ K.faults sink.old) }
-    ensures logs_stay { (result ≡ Status.VolumeFault Stop.Logs) ⊎ (L.faults logs.new ≡ L.faults logs.old) }
+    ensures script_stays { (result ≡ Status.ScriptFault) ⊎ Stays S.exact (S.faults script.old) (S.faults script.new) }
+    ensures sink_stays { (result ≡ Status.SinkFault) ⊎ Stays K.exact (K.faults sink.old) (K.faults sink.new) }
+    ensures logs_stay { (result ≡ Status.VolumeFault Stop.Logs) ⊎ Stays L.exact (L.faults logs.old) (L.faults logs.new) }
 {
     match Engine::start(alloc, settings, logs) {
         Ok(engine) => do_lines(alloc, engine, script, sink, logs),
@@ -239,9 +240,9 @@ fn do_lines<S: Source, K: Sink, L: Volume>(
         (record { state = start; logs = logs.old }) (K.given sink.old) (K.given sink.new) result logs.new }
     ensures cause { IsRunEnd result (Rose (S.faults script.old) (S.faults script.new)) (Rose (K.faults sink.old) (K.faults sink.new))
         (Rose (L.faults logs.old) (L.faults logs.new)) }
-    ensures script_stays { (result ≡ Status.ScriptFault) ⊎ (S.faults script.new ≡ S.faults script.old) }
-    ensures sink_stays { (result ≡ Status.SinkFault) ⊎ (K.faults sink.new ≡ K.faults sink.old) }
-    ensures logs_stay { (result ≡ Status.VolumeFault Stop.Logs) ⊎ (L.faults logs.new ≡ L.faults logs.old) }
+    ensures script_stays { (result ≡ Status.ScriptFault) ⊎ Stays S.exact (S.faults script.old) (S.faults script.new) }
+    ensures sink_stays { (result ≡ Status.SinkFault) ⊎ Stays K.exact (K.faults sink.old) (K.faults sink.new) }
+    ensures logs_stay { (result ≡ Status.VolumeFault Stop.Logs) ⊎ Stays L.exact (L.faults logs.old) (L.faults logs.new) }
 {
     let mut engine = engine;
     engine.opens_after_crash(logs);
@@ -282,9 +283,11 @@ fn do_line<S: Source, K: Sink, L: Volume>(
     ensures fewer { IfNone result (bytes_to_come reader.new < bytes_to_come reader.old) }
     ensures cause { IfSome result (λ status. IsRunEnd status (Rose (S.faults script.old) (S.faults script.new))
         (Rose (K.faults sink.old) (K.faults sink.new)) (Rose (L.faults logs.old) (L.faults logs.new))) }
-    ensures script_stays { (result ≡ Some Status.ScriptFault) ⊎ (S.faults script.new ≡ S.faults script.old) }
-    ensures sink_stays { (result ≡ Some Status.SinkFault) ⊎ (K.faults sink.new ≡ K.faults sink.old) }
-    ensures logs_stay { (result ≡ Some (Status.VolumeFault Stop.Logs)) ⊎ (L.faults logs.new ≡ L.faults logs.old) }
+    ensures later { (S.faults script.old ≤ S.faults script.new) × (K.faults sink.old ≤ K.faults sink.new)
+        × (L.faults logs.old ≤ L.faults logs.new) }
+    ensures script_stays { (result ≡ Some Status.ScriptFault) ⊎ Stays S.exact (S.faults script.old) (S.faults script.new) }
+    ensures sink_stays { (result ≡ Some Status.SinkFault) ⊎ Stays K.exact (K.faults sink.old) (K.faults sink.new) }
+    ensures logs_stay { (result ≡ Some (Status.VolumeFault Stop.Logs)) ⊎ Stays L.exact (L.faults logs.old) (L.faults logs.new) }
 {
     let request = match next_line(alloc, reader, line, script) {
         Ok(NextLine::Asks(request)) => request,
@@ -312,7 +315,8 @@ fn end_script<L: Volume>(engine: &mut Engine, logs: &mut L) -> Status
     ensures others { L.told → (s : State) → Stands engine.old (L.now logs.old) s → ChangesFrom (write_position s).file (L.now logs.old)
         (L.now logs.new) (L.may logs.old) (L.may logs.new) }
     ensures cause { IsEnd result (Rose (L.faults logs.old) (L.faults logs.new)) }
-    ensures logs_stay { (result ≡ Status.VolumeFault Stop.Logs) ⊎ (L.faults logs.new ≡ L.faults logs.old) }
+    ensures later { L.faults logs.old ≤ L.faults logs.new }
+    ensures logs_stay { (result ≡ Status.VolumeFault Stop.Logs) ⊎ Stays L.exact (L.faults logs.old) (L.faults logs.new) }
 {
     match engine.end(logs) {
         Ok(()) => {

@@ -1,4 +1,5 @@
-use Rattle.std.proofs.Common.{◌≡◌}
+use Rattle.std.proofs.Common.{◌≤◌}
+use Rattle.tt_disk.specs.Causes.{Stays}
 use Rattle.tt_flow.specs.Reading.{bytes_to_come}
 use Rattle.tt_log.specs.Logs.{IsOpen}
 use Rattle.tt_model.specs.State.{State}
@@ -12,9 +13,12 @@ decreases-lines g l = bytes_to_come l.reader
 abbrev pub invariant-lines : goal.invariant-lines
 invariant-lines g l = record {
   ready : g.L.Volume.told → IsOpen l.engine.log (g.L.Volume.now l.logs) (g.L.Volume.may l.logs);
-  scripts : g.S.Source.faults l.script ≡ g.S.Source.faults l.initial.script;
-  sinks : g.K.Sink.faults l.sink ≡ g.K.Sink.faults l.initial.sink;
-  volumes : g.L.Volume.faults l.logs ≡ g.L.Volume.faults l.initial.logs;
+  scripts_later : g.S.Source.faults l.initial.script ≤ g.S.Source.faults l.script;
+  sinks_later : g.K.Sink.faults l.initial.sink ≤ g.K.Sink.faults l.sink;
+  volumes_later : g.L.Volume.faults l.initial.logs ≤ g.L.Volume.faults l.logs;
+  scripts : Stays g.S.Source.exact (g.S.Source.faults l.initial.script) (g.S.Source.faults l.script);
+  sinks : Stays g.K.Sink.exact (g.K.Sink.faults l.initial.sink) (g.K.Sink.faults l.sink);
+  volumes : Stays g.L.Volume.exact (g.L.Volume.faults l.initial.logs) (g.L.Volume.faults l.logs);
   running : g.L.Volume.told → (start : State) → Stands l.fn.engine (g.L.Volume.now l.initial.logs) start
       → (s : State) × IsRunning g.L.Volume.now g.L.Volume.may l.fn.engine (record { state = start; logs = l.initial.logs }) (g.S.Source.left l.initial.script) (g.S.Source.left l.script) (g.K.Sink.given l.initial.sink) (g.K.Sink.given l.sink) l.reader l.engine (record { state = s; logs = l.logs });
 }
