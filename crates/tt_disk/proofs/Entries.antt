@@ -6,7 +6,7 @@ use Rattle.tt_disk.specs.declared.volume.Name.{Name}
 use Rattle.tt_disk.specs.declared.volume.Name.TheVariants.{Ds, Log, SetImage, SetLog}
 use Rattle.tt_disk.specs.declared.memory.file.MemFile.{MemFile}
 use Rattle.tt_disk.specs.declared.memory.file.Step.{Step}
-use Rattle.tt_disk.specs.declared.memory.file.Step.TheVariants.{Create, Write, Remove}
+use Rattle.tt_disk.specs.declared.memory.file.Step.TheVariants.{Create, Make, Write, Remove}
 use Rattle.tt_disk.specs.Volume.{Torn, Steps, Keeps, IsSettled}
 use Rattle.tt_disk.specs.Effects.{contents, Does, Leads}
 use Rattle.tt_disk.specs.Memory.{same_name, file_may, found, now_of, may_of, files_now, files_may, IsAt, FileSteps}
@@ -18,6 +18,7 @@ torn_not at n (Some f) = record { before = refl; after = refl; no_shorter = omeg
 -- a step may not be done at all
 pub does_nothing : (s : Step) (o : Option (List ℕ)) → Does s o o
 does_nothing Create o = inl refl
+does_nothing Make o = inl refl
 does_nothing (Write at len) o = torn_not at len o
 does_nothing Remove o = inl refl
 
@@ -174,6 +175,10 @@ module _ (files : List MemFile) (name : Name) (i : ℕ) (at : IsAt files name i)
 
   pub named : same_name file.name name ≡ true
   named = ap (λ f. same_name f.name name) (sym file_is) ∙ at.here
+
+  -- the file as it reads
+  pub was_now : files_now files name ≡ contents file.bytes
+  was_now = ap now_of (found_at files name i at ∙ ap (λ f. Some f) file_is)
 
   pub steps_index : (step : Option (List ℕ) → Option (List ℕ) → Type 0) (file' : MemFile) → FileSteps step file file'
       → Steps step name (files_now files) (files_now (set files i file')) (files_may files) (files_may (set files i file'))

@@ -7,7 +7,7 @@ use Rattle.std.proofs.lemmas.List.{take_more, map-append}
 use Rattle.tt_disk.specs.declared.volume.Name.{Name}
 use Rattle.tt_disk.specs.declared.memory.file.MemFile.{MemFile}
 use Rattle.tt_disk.specs.declared.memory.file.Step.{Step}
-use Rattle.tt_disk.specs.declared.memory.file.Step.TheVariants.{Create, Write, Remove}
+use Rattle.tt_disk.specs.declared.memory.file.Step.TheVariants.{Create, Make, Write, Remove}
 use Rattle.tt_disk.specs.Least.{was_emptied, emptied_if, least_of, least_of_any}
 use Rattle.tt_disk.specs.Effects.{contents, Does, Leads}
 use Rattle.tt_disk.specs.Memory.{same_name, file_may, found, now_of, files_now, files_may, AreLeft}
@@ -93,6 +93,7 @@ all_undone (s ∷ steps) o = (o, does_nothing s o, all_undone steps o)
 one_emptied : (there : Bool) (steps : List Step) (bytes : List ℕ) → was_emptied there steps ≡ true → Leads steps (Some bytes) (Some [])
 one_emptied there [] bytes is = cc
 one_emptied there (Create ∷ steps) bytes is = (Some [], inr ([], refl, omega arith), all_undone steps (Some []))
+one_emptied there (Make ∷ steps) bytes is = (Some bytes, inl refl, one_emptied true steps bytes is)
 one_emptied there (Write at len ∷ steps) bytes is = (Some bytes, does_nothing (Write at len) (Some bytes), one_emptied true steps bytes is)
 one_emptied there (Remove ∷ steps) bytes is = (Some bytes, inl refl, one_emptied false steps bytes is)
 

@@ -4,7 +4,7 @@ use Rattle.tt_disk.specs.declared.volume.Name.{Name}
 use Rattle.tt_disk.specs.declared.memory.file.MemFile.{MemFile}
 use Rattle.tt_disk.specs.declared.memory.MemVolume.{MemVolume}
 use Rattle.tt_disk.specs.declared.memory.file.Step.{Step}
-use Rattle.tt_disk.specs.declared.memory.file.Step.TheVariants.{Create, Write, Remove}
+use Rattle.tt_disk.specs.declared.memory.file.Step.TheVariants.{Create, Make, Write, Remove}
 use Rattle.tt_disk.specs.Effects.{contents}
 use Rattle.tt_disk.specs.Memory.{found}
 
@@ -12,6 +12,7 @@ use Rattle.tt_disk.specs.Memory.{found}
 abbrev pub was_emptied : Bool → List Step → Bool
 was_emptied there [] = false
 was_emptied there (Create ∷ steps) = there || was_emptied true steps
+was_emptied there (Make ∷ steps) = was_emptied true steps
 was_emptied there (Write at len ∷ steps) = was_emptied true steps
 was_emptied there (Remove ∷ steps) = was_emptied false steps
 

@@ -40,6 +40,15 @@ Torn at n None None = Unit {0}
 abbrev pub Created : Option (List ℕ) → Option (List ℕ) → Type 0
 Created old new = (new ≡ old) ⊎ ((f : List ℕ) × (new ≡ Some f) × (length f ≤ size_of old))
 
+-- after a create of a file that wasn't there: as it was, or empty. Nothing was emptied.
+abbrev pub Made : Option (List ℕ) → Option (List ℕ) → Type 0
+Made old new = (new ≡ old) ⊎ (new ≡ Some [])
+
+-- after a create of a file that reads like this
+abbrev pub CreatedFrom : Option (List ℕ) → Option (List ℕ) → Option (List ℕ) → Type 0
+CreatedFrom None old new = Made old new
+CreatedFrom (Some f) old new = Created old new
+
 -- after a remove that was done in part: as it was, or gone
 abbrev pub Removed : Option (List ℕ) → Option (List ℕ) → Type 0
 Removed old new = (new ≡ old) ⊎ (new ≡ None)

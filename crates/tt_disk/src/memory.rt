@@ -6,7 +6,7 @@ ghost use Rattle.tt_disk.specs.Memory.{same_name, found, IsAt, files_now, files_
 ghost use Rattle.tt_disk.specs.Causes.{HasCause};
 ghost use Rattle.tt_disk.specs.Plans.{fails_by};
 ghost use Rattle.std.specs.List.{list_any};
-ghost use Rattle.tt_disk.specs.Volume.{size_of, overwritten, written, Torn, Created, Removed, TornBytes, Steps, Keeps, IsSettled, Gives, IsNextLog};
+ghost use Rattle.tt_disk.specs.Volume.{size_of, overwritten, written, Torn, CreatedFrom, Removed, TornBytes, Steps, Keeps, IsSettled, Gives, IsNextLog};
 
 mod file;
 
@@ -126,8 +126,8 @@ fn create_file(
     fails: bool,
 ) -> Result<(), Failed>
     ensures done { OnOk result (files_now files.new.items name ≡ Some []) }
-    ensures steps { Steps Created name (files_now files.old.items) (files_now files.new.items) (files_may files.old.items) (files_may files.new.items) }
-    ensures reaches { OnOk result (ReachesAll Created name (files_may files.old.items) (files_may files.new.items)) }
+    ensures steps { Steps (CreatedFrom (files_now files.old.items name)) name (files_now files.old.items) (files_now files.new.items) (files_may files.old.items) (files_may files.new.items) }
+    ensures reaches { OnOk result (ReachesAll (CreatedFrom (files_now files.old.items name)) name (files_may files.old.items) (files_may files.new.items)) }
     ensures planned { IsTrue fails → IsErr result }
 {
     match find(files, name) {
@@ -374,7 +374,7 @@ fn was_emptied(steps: &[Step]) -> bool
             } else {
                 is_there = true;
             },
-            Step::Write { .. } => is_there = true,
+            Step::Make | Step::Write { .. } => is_there = true,
             Step::Remove => is_there = false,
         }
     }
@@ -436,6 +436,11 @@ fn torn(
                 before
             }),
         },
+        Step::Make => Ok(if picks.is_done() {
+            Some(Vec::new(alloc))
+        } else {
+            content
+        }),
         Step::Write { at, len } => match content {
             Some(bytes) => Ok(Some(partly_written(bytes, at, len, now, picks)?)),
             None => Ok(None),
@@ -674,8 +679,8 @@ impl Volume for MemVolume {
 
     fn create(&mut self, name: Name) -> Result<(), Failed>
         ensures created { OnOk result (⟦<MemVolume as Volume>⟧.now self.new name ≡ Some []) }
-        ensures steps { Steps Created name (⟦<MemVolume as Volume>⟧.now self.old) (⟦<MemVolume as Volume>⟧.now self.new) (⟦<MemVolume as Volume>⟧.may self.old) (⟦<MemVolume as Volume>⟧.may self.new) }
-        ensures reaches { OnOk result (ReachesAll Created name (⟦<MemVolume as Volume>⟧.may self.old) (⟦<MemVolume as Volume>⟧.may self.new)) }
+        ensures steps { Steps (CreatedFrom (⟦<MemVolume as Volume>⟧.now self.old name)) name (⟦<MemVolume as Volume>⟧.now self.old) (⟦<MemVolume as Volume>⟧.now self.new) (⟦<MemVolume as Volume>⟧.may self.old) (⟦<MemVolume as Volume>⟧.may self.new) }
+        ensures reaches { OnOk result (ReachesAll (CreatedFrom (⟦<MemVolume as Volume>⟧.now self.old name)) name (⟦<MemVolume as Volume>⟧.may self.old) (⟦<MemVolume as Volume>⟧.may self.new)) }
         ensures cause { HasCause ⟦<MemVolume as Volume>⟧.exact (⟦<MemVolume as Volume>⟧.faults self.old) (⟦<MemVolume as Volume>⟧.faults self.new) result }
         ensures counted { IsCounted self.old self.new result }
     {

@@ -2,7 +2,7 @@
 ghost use Rattle.std.specs.Prelude.{◌≡◌, ◌+◌, ◌^◌, ◌≤◌, ℕ, List, length, Option, IsSome, IfOk, IfSome, OnOk, Some, None, [], option_map};
 ghost use Rattle.tt_disk.specs.declared.volume.Name.{Name};
 ghost use Rattle.tt_disk.specs.Causes.{HasCause};
-ghost use Rattle.tt_disk.specs.Volume.{size_of, written, Torn, Created, Removed, Steps, Keeps, IsSettled, Gives, IsNextLog};
+ghost use Rattle.tt_disk.specs.Volume.{size_of, written, Torn, CreatedFrom, Removed, Steps, Keeps, IsSettled, Gives, IsNextLog};
 
 /// A call failed, by the volume's fault: the volume counted it.
 #[derive(Clone, Copy, Debug, PartialEq, Eq)]
@@ -57,10 +57,11 @@ pub trait Volume {
         ensures keeps { told → Keeps (now self.old) (now self.new) (may self.old) (may self.new) }
         ensures cause { HasCause exact (faults self.old) (faults self.new) result };
 
-    /// Makes an empty file, or empties the one that is there. The other files stay as they are.
+    /// Makes an empty file, or empties the one that is there. Where none is there, a crash leaves what one before could
+    /// leave, or the empty file. The other files stay as they are.
     fn create(&mut self, name: Name) -> Result<(), Failed>
         ensures created { told → OnOk result (now self.new name ≡ Some []) }
-        ensures steps { told → Steps Created name (now self.old) (now self.new) (may self.old) (may self.new) }
+        ensures steps { told → Steps (CreatedFrom (now self.old name)) name (now self.old) (now self.new) (may self.old) (may self.new) }
         ensures cause { HasCause exact (faults self.old) (faults self.new) result };
 
     /// Fills the buffer from an offset on, as far as the file goes, and answers how many bytes it gave. No file

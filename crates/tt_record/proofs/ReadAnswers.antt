@@ -1,25 +1,10 @@
 -- What an answer of a reading says of the bytes.
-use Rattle.std.proofs.Common.{◌≡◌, ◌≤◌, ℕ, List, length, drop, Result, Ok, Err, Option, Some, None, refl, sym, ap, ◌∙◌, arith, length-append, IfOk, IfSome}
+use Rattle.std.proofs.Common.{◌≡◌, ◌≤◌, ℕ, List, length, drop, Result, Ok, Err, Option, Some, None, sym, ap, ◌∙◌, arith, length-append, IfOk, IfSome}
 use Rattle.tt_value.specs.WordLaws.{AreBytes}
-use Rattle.tt_value.specs.Stored.{IsStored}
-use Rattle.tt_value.specs.StoredLaws.{read_is_stored, stored_is_read}
-use Rattle.tt_value.specs.ReadingRows.{row_in}
-use Rattle.tt_value.specs.declared.value.Row.{Row}
 use Rattle.tt_record.specs.declared.entry.Entry.{Entry}
 use Rattle.tt_record.specs.Entries.{entry_bytes, length_of, BeginsWith}
 use Rattle.tt_record.specs.EntryLaws.{takes, first_is_read, some_bytes}
 use Rattle.tt_record.specs.Reading.{entry_at}
-
-no_row : (bytes : List ℕ) (o : Option Row) → AreBytes bytes → row_in bytes ≡ o → ((r : Row) → IsStored bytes r → None ≡ Some r) → None ≡ o
-no_row bytes None b is only = refl
-no_row bytes (Some r) b is only = only r (read_is_stored bytes r b is)
-
--- the row of the bytes, if they are a row's, by what a call answers
-pub row_answered : {E : Type 0} (bytes : List ℕ) (answer : Result (Option Row) E) → AreBytes bytes
-    → IfOk answer (λ o. IfSome o (λ r. IsStored bytes r)) → IfOk answer (λ o. (r : Row) → IsStored bytes r → o ≡ Some r) → IfOk answer (λ o. o ≡ row_in bytes)
-row_answered bytes (Ok None) b read only = no_row bytes (row_in bytes) b refl only ∙ refl
-row_answered bytes (Ok (Some r)) b read only = sym (stored_is_read bytes r read)
-row_answered bytes (Err e) b read only = tt
 
 pub entry_stands : {E : Type 0} (bytes : List ℕ) (answer : Result (Option (Entry × ℕ)) E) → AreBytes bytes → IfOk answer (λ o. o ≡ entry_at bytes)
     → IfOk answer (λ o. IfSome o (λ p. BeginsWith bytes p.0 × (p.1 ≡ length_of p.0)))

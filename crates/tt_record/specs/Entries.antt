@@ -2,7 +2,7 @@
 use Rattle.std.specs.Prelude.{◌≡◌, ◌≤◌, ◌<◌, ◌^◌, ◌==◌, ℕ, Bool, true, false, List, [], ◌∷◌, ◌++◌, length, drop}
 use Rattle.std.specs.List.{flat_map, All}
 use Rattle.tt_value.specs.Words.{big_endian}
-use Rattle.tt_value.specs.Stored.{row_bytes, IsStorable}
+use Rattle.tt_value.specs.Stored.{row_bytes, IsCell}
 use Rattle.tt_value.specs.declared.value.Row.{Row}
 use Rattle.tt_value.specs.declared.value.Cell.{Cell}
 use Rattle.tt_value.specs.declared.value.Cell.TheVariants.{Empty, Full}
@@ -26,11 +26,6 @@ entry_bytes (Switch file) = 5 ∷ big_endian 4 file
 
 abbrev pub length_of : Entry → ℕ
 length_of e = length (entry_bytes e)
-
--- a full cell has a table's id, which isn't 0, and a row that can be stored
-abbrev pub IsCell : Cell → Type 0
-IsCell Empty = Unit {0}
-IsCell (Full table row) = (1 ≤ table) × (table < 2 ^ 32) × IsStorable row
 
 -- at least one cell is full, and two full ones are of one table
 abbrev pub of_one_table : Cell → Cell → Bool

@@ -6,7 +6,7 @@ use Rattle.std.proofs.Math.Seq.{take-append_seam, drop-append_seam}
 use Rattle.byteorder.specs.Numbers.{big_from-lt}
 use Rattle.tt_value.specs.Words.{big_endian, number}
 use Rattle.tt_value.specs.WordLaws.{AreBytes, length-big_endian, number-big_endian, drop-big_endian, big_endian-number_2, big_endian-number_4, big_endian-number_8, take_bytes, drop_bytes}
-use Rattle.tt_value.specs.Stored.{row_bytes, IsStorable, IsStored}
+use Rattle.tt_value.specs.Stored.{row_bytes, IsStorable, IsStored, IsCell}
 use Rattle.tt_value.specs.StoredLaws.{read_is_stored, stored_is_read}
 use Rattle.tt_value.specs.ReadingRows.{row_in}
 use Rattle.tt_value.specs.declared.TheConstants.{ROW_MAX}
@@ -15,7 +15,7 @@ use Rattle.tt_value.specs.declared.value.Cell.{Cell}
 use Rattle.tt_value.specs.declared.value.Cell.TheVariants.{Empty, Full}
 use Rattle.tt_record.specs.declared.entry.Entry.{Entry}
 use Rattle.tt_record.specs.declared.entry.Entry.TheVariants.{Change, Commit, Abort, Mark, Switch}
-use Rattle.tt_record.specs.Entries.{cell_bytes, entry_bytes, length_of, IsCell, of_one_table, IsTransaction, IsChange, IsEntry, BeginsWith}
+use Rattle.tt_record.specs.Entries.{cell_bytes, entry_bytes, length_of, of_one_table, IsTransaction, IsChange, IsEntry, BeginsWith}
 use Rattle.tt_record.specs.Reading.{transaction_at, full_of, full_at, cell_at, with_second, with_first, cells_at, change_of, changed_at, with_transaction, change_at, switch_at, committed, aborted, entry_at}
 
 -- ---- tests

@@ -1,5 +1,6 @@
 ghost use Rattle.std.specs.Prelude.{◌≡◌, ◌≤◌, ◌+◌, ◌*◌, length};
-ghost use Rattle.tt_record.specs.Entries.{IsCell, IsEntry, cell_bytes, length_of};
+ghost use Rattle.tt_value.specs.Stored.{IsCell};
+ghost use Rattle.tt_record.specs.Entries.{IsEntry, cell_bytes, length_of};
 
 use crate::entry::Entry;
 use tt_value::{Cell, ROW_MAX, stored_length};

@@ -26,6 +26,7 @@ fn read_transaction(bytes: &[u8]) -> Option<u64>
     Some(transaction)
 }
 
+// Of the clauses of `read_row` the one that a cell's reading goes by.
 fn row_of(alloc: Global, bytes: &[u8]) -> Result<Option<Row>, AllocError>
     ensures { IfOk result (λ o. o ≡ row_in bytes.now) }
 {

@@ -1,8 +1,8 @@
 // The bytes of entries.
 ghost use Rattle.std.specs.Prelude.{◌≡◌, ◌≤◌, ◌+◌, ◌++◌, ◌∷◌, List, ℕ, length, drop, Some};
 ghost use Rattle.tt_value.specs.Words.{big_endian};
-ghost use Rattle.tt_record.specs.Entries.{IsCell, IsEntry, full_bytes, cell_bytes, entry_bytes, length_of};
-ghost use Rattle.tt_value.specs.Stored.{IsStorable, row_bytes};
+ghost use Rattle.tt_record.specs.Entries.{IsEntry, full_bytes, cell_bytes, entry_bytes, length_of};
+ghost use Rattle.tt_value.specs.Stored.{IsCell, IsStorable, row_bytes};
 ghost use Rattle.tt_record.specs.Reading.{entry_at};
 
 use crate::entry::Entry;

@@ -8,6 +8,8 @@ use Rattle.tt_value.specs.declared.TheConstants.{ROW_MAX, VALUES_MAX, TEXT_MAX, 
 use Rattle.tt_value.specs.declared.value.Value.{Value}
 use Rattle.tt_value.specs.declared.value.Value.TheVariants.{Null, Int, Number, Text}
 use Rattle.tt_value.specs.declared.value.Row.{Row}
+use Rattle.tt_value.specs.declared.value.Cell.{Cell}
+use Rattle.tt_value.specs.declared.value.Cell.TheVariants.{Empty, Full}
 
 -- whole numbers in two's complement, texts behind their length
 abbrev pub value_bytes : Value → List ℕ
@@ -44,3 +46,8 @@ pub record IsStorable (r : Row) : Type 0 where
 -- the bytes are those of the row, and nothing follows them
 abbrev pub IsStored : List ℕ → Row → Type 0
 IsStored bytes r = IsStorable r × (bytes ≡ row_bytes r)
+
+-- a full cell has a table's id, which isn't 0, and a row that can be stored
+abbrev pub IsCell : Cell → Type 0
+IsCell Empty = Unit {0}
+IsCell (Full table row) = (1 ≤ table) × (table < 2 ^ 32) × IsStorable row

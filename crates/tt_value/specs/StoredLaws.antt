@@ -24,7 +24,8 @@ use Rattle.tt_value.specs.declared.value.Value.{Value}
 use Rattle.tt_value.specs.declared.value.Value.TheVariants.{Null, Int, Number, Text}
 use Rattle.tt_value.specs.declared.value.Row.{Row}
 
-number-below : (n : ℕ) (z : List ℕ) → AreBytes z → number n z < 256 ^ n
+-- a number of n bytes is below 256 to the power of n
+pub number-below : (n : ℕ) (z : List ℕ) → AreBytes z → number n z < 256 ^ n
 unfolding number
 number-below n z h = big_from-lt 0 n z h
 

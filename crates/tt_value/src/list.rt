@@ -1,4 +1,4 @@
-ghost use Rattle.std.specs.Prelude.{◌≡◌, [], ◌∷◌, ◌++◌, ◌<◌, length, slice_get, remove, IfOk, OnOk, OnErr, OnSome};
+ghost use Rattle.std.specs.Prelude.{◌≡◌, [], ◌∷◌, ◌++◌, ◌<◌, length, take, drop, slice_get, remove, IfOk, OnOk, OnErr, OnSome};
 ghost use Rattle.std.specs.Option.{option_copied};
 
 use crate::duplicate::Duplicate;
@@ -23,6 +23,9 @@ impl<T> Model for List<T> {
 }
 
 impl<T> List<T> {
+    ghost use Rattle.std.specs.Borrow.{Lends, sem, Array};
+    ghost use Rattle.tt_value.specs.contracts.list.List.{the_row};
+
     /// An empty list. It takes no memory.
     pub fn new(alloc: Global) -> List<T>
         ensures { result ≡ [] }
@@ -45,6 +48,14 @@ impl<T> List<T> {
     {
         let List { items } = self;
         items
+    }
+
+    /// The elements in their order, to be changed where they lie. It takes no memory.
+    pub fn as_mut_slice(&mut self) -> &mut [T]
+        ensures* writes_back { sem 𝓛 (Lends (the_row T.row) (Array T.row 0) self.entry result (λ w. take (length self.old) (w ++ drop (length w) self.old))) }
+        ensures value { result.now ≡ self.old }
+    {
+        self.items.as_mut_slice()
     }
 
     /// The elements in their order.
@@ -87,6 +98,16 @@ impl<T: Drop> List<T> {
         ensures rest { self.new ≡ remove self.old at }
     {
         self.items.remove(at)
+    }
+}
+
+impl<T: Copy> List<T> {
+    /// Puts the elements of a slice of the same length in place of its own. It takes no memory.
+    pub fn copy_from_slice(&mut self, from: &[T])
+        requires { length from.now ≡ length self.old }
+        ensures { self.new ≡ from.now }
+    {
+        self.items.copy_from_slice(from);
     }
 }
 

@@ -145,6 +145,8 @@ pub fn read_row(alloc: Global, bytes: &[u8]) -> Result<Option<Row>, AllocError>
     ensures read { IfOk result (λ o. IfSome o (λ r. IsStored bytes.now r)) }
     // A row with these bytes is read.
     ensures only { IfOk result (λ o. (r : Row) → IsStored bytes.now r → o ≡ Some r) }
+    // Both as one function of the bytes.
+    ensures value { IfOk result (λ o. o ≡ row_in bytes.now) }
 {
     read_whole(alloc, bytes)
 }

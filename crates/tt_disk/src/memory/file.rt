@@ -1,7 +1,7 @@
 // One file in memory, and the calls on it since its last sync.
 ghost use Rattle.std.specs.Prelude.{◌≡◌, ◌+◌, ◌≤◌, [], List, ℕ, Option, Some, None, IsSome, IsErr, IsTrue, length, OnOk, OnErr};
 ghost use Rattle.tt_disk.specs.Effects.{contents, Leads};
-ghost use Rattle.tt_disk.specs.Volume.{size_of, overwritten, written, Torn, Created, Removed};
+ghost use Rattle.tt_disk.specs.Volume.{size_of, overwritten, written, Torn, Created, CreatedFrom, Made, Removed};
 
 use crate::{Failed, Name};
 use std::alloc::{AllocError, Global};
@@ -9,7 +9,9 @@ use std::alloc::{AllocError, Global};
 // A call that changes a file.
 #[derive(Clone, Copy, Debug)]
 pub(super) enum Step {
+    // Of a file that was there, and of one that wasn't.
     Create,
+    Make,
     Write { at: u64, len: u64 },
     Remove,
 }
@@ -44,8 +46,33 @@ fn overwrite(content: &mut Vec<u8>, at: usize, bytes: &[u8]) -> Result<(), Alloc
 impl MemFile {
     ghost use Rattle.tt_disk.specs.Memory.{file_may, FileSteps, Reaches};
 
-    // Empties it. Where the call is to fail, a crash may leave it done all the same.
+    // Makes it, or empties it. Where the call is to fail, a crash may leave it done all the same.
     pub(super) fn create(&mut self, alloc: Global, fails: bool) -> Result<(), Failed>
+        ensures done { OnOk result (contents self.new.bytes ≡ Some []) }
+        ensures steps { FileSteps (CreatedFrom (contents self.old.bytes)) self.old self.new }
+        ensures reaches { OnOk result (Reaches (CreatedFrom (contents self.old.bytes)) self.old self.new) }
+        ensures planned { IsTrue fails → IsErr result }
+    {
+        match &self.bytes {
+            Some(_) => self.empty(alloc, fails),
+            None => self.make(alloc, fails),
+        }
+    }
+
+    fn make(&mut self, alloc: Global, fails: bool) -> Result<(), Failed>
+        ensures done { OnOk result (contents self.new.bytes ≡ Some []) }
+        ensures steps { FileSteps Made self.old self.new }
+        ensures reaches { OnOk result (Reaches Made self.old self.new) }
+        ensures planned { IsTrue fails → IsErr result }
+    {
+        if self.steps.push(Step::Make).is_err() || fails {
+            return Err(Failed);
+        }
+        self.bytes = Some(Vec::new(alloc));
+        Ok(())
+    }
+
+    fn empty(&mut self, alloc: Global, fails: bool) -> Result<(), Failed>
         ensures done { OnOk result (contents self.new.bytes ≡ Some []) }
         ensures steps { FileSteps Created self.old self.new }
         ensures reaches { OnOk result (Reaches Created self.old self.new) }

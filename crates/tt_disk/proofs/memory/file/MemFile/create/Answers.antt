@@ -1,34 +1,9 @@
-use Rattle.std.proofs.Common.{◌≡◌, ◌++◌, [], ◌∷◌, inr, refl, arith, sym, subst}
-use Rattle.std.proofs.lemmas.Grind.{common_steps}
-use Rattle.tt_disk.specs.declared.memory.file.Step.TheVariants.{Create}
-use Rattle.tt_disk.specs.Volume.{Created}
+use Rattle.std.proofs.Common.{ap, sym, subst}
+use Rattle.std.specs.Prelude.{OnOk}
+use Rattle.tt_disk.specs.Volume.{CreatedFrom}
 use Rattle.tt_disk.specs.Effects.{contents}
-use Rattle.tt_disk.specs.Memory.{FileSteps}
-use Rattle.tt_disk.proofs.Entries.{half_done, noted}
-use Rattle.tt_disk.proofs.Reaching.{reached, led_on, led_still}
-use Rattle.tt_disk.proofs.memory.file.MemFile.create.Goals.{then-is_err-via-then-is_err, then-is_err-via-else-is_err+then-fails}
+use Rattle.tt_disk.specs.Memory.{Reaches}
 use Rattle.tt_disk.proofs.memory.file.MemFile.create.Goals as goal
 
-pub returns-then-is_err-clause-steps : goal.returns-then-is_err-clause-steps
-returns-then-is_err-clause-steps c = elim c.then-is_err.branch [
-  | then-is_err-via-then-is_err w ↦ subst (λ file. FileSteps Created c.args.self.now file) (sym w.self-is) (half_done Create _ _ _ refl refl c.push.ensures.items refl)
-  | then-is_err-via-else-is_err+then-fails w ↦ subst (λ file. FileSteps Created c.args.self.now file) (sym w.self-is) (half_done Create _ _ _ refl refl c.push.ensures.items refl)
-]
-
-pub returns-clause-steps : goal.returns-clause-steps
-returns-clause-steps c =
-    let pushed : c.push.new.self.items ≡ c.args.self.now.steps.items ++ Create ∷ [] = grind (arith, common_steps) in
-    noted Create _ _ refl refl pushed (inr ([], grind (arith, common_steps), omega arith))
-
-pub returns-clause-reaches : goal.returns-clause-reaches
-returns-clause-reaches c =
-    let pushed : c.push.new.self.items ≡ c.args.self.now.steps.items ++ Create ∷ [] = grind (arith, common_steps) in
-    reached Create _ _ refl pushed
-
-pub invariant_of-self-then-fails : goal.invariant_of-self-then-fails
-invariant_of-self-then-fails c = record { led = led_still Create c.args.self.now.steps.items _ (contents c.args.self.now.settled) (contents c.args.self.now.bytes) _ c.push.ensures.items c.args.self.now.led }
-
-pub invariant_of-self-2 : goal.invariant_of-self-2
-invariant_of-self-2 c =
-    let pushed : c.push.new.self.items ≡ c.args.self.now.steps.items ++ Create ∷ [] = grind (arith, common_steps) in
-    record { led = led_on Create c.args.self.now.steps.items _ (contents c.args.self.now.settled) (contents c.args.self.now.bytes) _ pushed (inr ([], grind (arith, common_steps), omega arith)) c.args.self.now.led }
+pub returns-in-Some-clause-reaches : goal.returns-in-Some-clause-reaches
+returns-in-Some-clause-reaches c = subst (λ o. OnOk c.empty.result (Reaches (CreatedFrom o) c.args.self.now c.empty.new.self)) (sym (ap contents c.in-Some.is)) c.empty.ensures.reaches
