@@ -47,17 +47,17 @@ mark_inserted : (numbers full : Numbers) (place : ℕ) (is_full : Bool) → Mark
     (record { members = if is_full then finite.insert full.members (place / 64) else full.members; room = full.room })
 mark_inserted numbers full place true marks says = record {
   marked = λ at h. either (inserted full.members (place / 64) at h)
-  (λ (e : at ≡ place / 64). subst (λ n. IsFullWord (finite.insert numbers.members place) n) (sym e) (says.0 refl))
-  (λ m. full_still numbers.members place at (marks.marked at m));
+      (λ (e : at ≡ place / 64). subst (λ n. IsFullWord (finite.insert numbers.members place) n) (sym e) (says.0 refl))
+      (λ m. full_still numbers.members place at (marks.marked at m));
   all = λ at is. either (cases_eq at (place / 64)) (λ (e : at ≡ place / 64). insert_here full.members (place / 64) at e)
-  (λ (e : at ≡ place / 64 → ⊥). insert_keeps full.members (place / 64) at (marks.all at (full_before numbers.members place at is e)));
+      (λ (e : at ≡ place / 64 → ⊥). insert_keeps full.members (place / 64) at (marks.all at (full_before numbers.members place at is e)));
   room = marks.room;
 }
 mark_inserted numbers full place false marks says = record {
   marked = λ at h. full_still numbers.members place at (marks.marked at h);
   all = λ at is. either (cases_eq at (place / 64))
-  (λ (e : at ≡ place / 64). absurd (true≢false (sym (says.1 (subst (λ n. IsFullWord (finite.insert numbers.members place) n) e is)))))
-  (λ (e : at ≡ place / 64 → ⊥). marks.all at (full_before numbers.members place at is e));
+      (λ (e : at ≡ place / 64). absurd (true≢false (sym (says.1 (subst (λ n. IsFullWord (finite.insert numbers.members place) n) e is)))))
+      (λ (e : at ≡ place / 64 → ⊥). marks.all at (full_before numbers.members place at is e));
   room = marks.room;
 }
 
@@ -78,13 +78,13 @@ pub remove_marked : (numbers full less marked : Numbers) (place : ℕ) → Marks
     → marked.members ≡ finite.remove full.members (place / 64) → marked.room ≡ full.room → MarksFull less marked
 remove_marked numbers full less marked place marks m r n s = record {
   marked = λ at h.
-  let (other, member) = removed full.members (place / 64) at (subst (λ (l : Set). In l at) n h) in
-  λ i l. subst (λ (k : Set). In k (64 * at + i)) (sym m) (remove_keeps numbers.members place (64 * at + i) (λ (e : 64 * at + i ≡ place). other (let k : at ≡ place / 64 = omega arith in k)) (marks.marked at member i l));
+      let (other, member) = removed full.members (place / 64) at (subst (λ (l : Set). In l at) n h) in
+      λ i l. subst (λ (k : Set). In k (64 * at + i)) (sym m) (remove_keeps numbers.members place (64 * at + i) (λ (e : 64 * at + i ≡ place). other (let k : at ≡ place / 64 = omega arith in k)) (marks.marked at member i l));
   all = λ at is.
-  let each : (i : ℕ) → i < 64 → (64 * at + i ≡ place → ⊥) × In numbers.members (64 * at + i) = λ i l. removed numbers.members place (64 * at + i) (subst (λ (k : Set). In k (64 * at + i)) m (is i l)) in
-  subst (λ (l : Set). In l at) (sym n) (remove_keeps full.members (place / 64) at
-  (λ (e : at ≡ place / 64). (each (place % 64) (omega arith)).0 (omega (arith, e)))
-  (marks.all at (λ i l. (each i l).1)));
+      let each : (i : ℕ) → i < 64 → (64 * at + i ≡ place → ⊥) × In numbers.members (64 * at + i) = λ i l. removed numbers.members place (64 * at + i) (subst (λ (k : Set). In k (64 * at + i)) m (is i l)) in
+      subst (λ (l : Set). In l at) (sym n) (remove_keeps full.members (place / 64) at
+      (λ (e : at ≡ place / 64). (each (place % 64) (omega arith)).0 (omega (arith, e)))
+      (marks.all at (λ i l. (each i l).1)));
   room = omega (arith, r, s, marks.room);
 }
 
