@@ -1,0 +1,177 @@
+//! Copies of pages that lie side by side in one buffer, so that pages which follow each other in a
+//! checkpoint file are written by one call.
+//!
+//! The buffer is taken once, by `new`. A round clears it, puts the copies of its pages behind each
+//! other, in ascending order, and hands the whole to the writer, which asks for the bytes of each run
+//! of pages. No call but `new` takes memory.
+ghost use Rattle.std.specs.Prelude.{◌≡◌, ◌<◌, ◌≤◌, ◌+◌, ◌*◌, ◌++◌, length, take, drop, set, slice_index, IfOk};
+ghost use Rattle.tt_cells.specs.Book.{without_stale};
+ghost use Rattle.tt_cells.specs.Copies.{AreSound, copy_of, joined, no_copies, pages_of, put_at, with_copy};
+
+use crate::PAGE_BYTES;
+use crate::cells::{Cells, PageCopy};
+use std::alloc::{AllocError, Global};
+use std::marker::Model;
+use tt_value::List;
+
+/// There is room for at most so many copies.
+pub const COPIES_MOST: u32 = 256;
+
+/// Copies of pages, side by side in their order. Contracts see how many there may be, and the copies
+/// that are there.
+#[derive(Drop)]
+pub struct PageCopies {
+    count: u32,
+    numbers: Vec<u32>,
+    bytes: Vec<u8>,
+    spare: PageCopy,
+}
+
+impl Model for PageCopies {
+    ghost use Rattle.tt_cells.specs.Copies.{Copies, copies_code, copies_in, AreKept};
+
+    ghost Value = { Copies };
+
+    ghost coded = { copies_code };
+
+    ghost view = { λ c. copies_in c.count c.numbers.items c.bytes.items };
+
+    ghost invariant = { λ c. AreKept c.count c.numbers.items c.bytes.items c.spare };
+}
+
+impl PageCopies {
+    /// Room for 1 to 256 copies, none of them there.
+    pub fn new(alloc: Global, room: u32) -> Result<PageCopies, AllocError>
+        requires some { 1 ≤ room }
+        requires most { room ≤ COPIES_MOST }
+        ensures { IfOk result (λ c. c ≡ no_copies room) }
+    {
+        Ok(PageCopies {
+            count: 0,
+            numbers: blank_numbers(alloc, room as usize)?,
+            bytes: blank_bytes(alloc, PAGE_BYTES * room as usize)?,
+            spare: PageCopy {
+                page: 0,
+                bytes: List::from_vec(blank_bytes(alloc, PAGE_BYTES)?),
+            },
+        })
+    }
+
+    /// How many copies there may be.
+    pub fn room(&self) -> u32
+        ensures { result ≡ self.now.room }
+    {
+        self.numbers.len() as u32
+    }
+
+    /// How many copies there are.
+    pub fn len(&self) -> u32
+        ensures len { result ≡ length self.now.copies }
+        ensures sound { AreSound self.now }
+    {
+        self.count
+    }
+
+    /// The page's number of the copy at a place, the first being 0.
+    pub fn page(&self, at: u32) -> u32
+        requires { at < length self.now.copies }
+        ensures { result ≡ slice_index (pages_of self.now.copies) at }
+    {
+        self.numbers[at as usize]
+    }
+
+    /// The bytes of so many copies from one on, one after another.
+    pub fn bytes_of_run(&self, from: u32, count: u32) -> &[u8]
+        requires { from + count ≤ length self.now.copies }
+        ensures { result.now ≡ joined (take count (drop from self.now.copies)) }
+    {
+        piece(&self.bytes, from as usize, count as usize)
+    }
+
+    /// Takes all copies away. The room stays.
+    pub fn clear(&mut self)
+        ensures { self.new ≡ no_copies self.old.room }
+    {
+        self.count = 0;
+    }
+
+    /// Puts a copy behind the others.
+    pub fn push(&mut self, copy: &PageCopy)
+        requires room { length self.old.copies < self.old.room }
+        requires bytes { length copy.now.bytes ≡ PAGE_BYTES }
+        ensures { self.new ≡ with_copy copy.now self.old }
+    {
+        let at = self.count as usize;
+        put_number(&mut self.numbers, at, copy.page);
+        put_bytes(&mut self.bytes, at, copy.bytes.as_slice());
+        self.count += 1;
+    }
+
+    // Puts a copy of a page of these cells behind the others, and the file then has the page.
+    fn push_page(&mut self, cells: &mut Cells, file: u8, page: u32)
+        requires file { file ≤ 1 }
+        requires page { page < cells.old.pages }
+        requires room { length self.old.copies < self.old.room }
+        ensures cells { cells.new ≡ without_stale file page cells.old }
+        ensures copies { self.new ≡ with_copy (copy_of page cells.old) self.old }
+    {
+        // That the cells are sound is what gives the copy a page's bytes.
+        let _pages = cells.pages();
+        cells.copy_page(file, page, &mut self.spare);
+        let at = self.count as usize;
+        put_number(&mut self.numbers, at, page);
+        put_bytes(&mut self.bytes, at, self.spare.bytes.as_slice());
+        self.count += 1;
+    }
+}
+
+impl Cells {
+    /// Puts a copy of a page behind the others, and the file then has the page.
+    pub fn copy_next(&mut self, file: u8, page: u32, into: &mut PageCopies)
+        requires file { file ≤ 1 }
+        requires page { page < self.old.pages }
+        requires room { length into.old.copies < into.old.room }
+        ensures cells { self.new ≡ without_stale file page self.old }
+        ensures copies { into.new ≡ with_copy (copy_of page self.old) into.old }
+    {
+        into.push_page(self, file, page);
+    }
+}
+
+fn blank_numbers(alloc: Global, count: usize) -> Result<Vec<u32>, AllocError>
+    ensures { IfOk result (λ numbers. length numbers.items ≡ count) }
+{
+    vec![in alloc; 0; count]
+}
+
+fn blank_bytes(alloc: Global, count: usize) -> Result<Vec<u8>, AllocError>
+    ensures { IfOk result (λ bytes. length bytes.items ≡ count) }
+{
+    vec![in alloc; 0; count]
+}
+
+// The bytes of so many pages from one on.
+fn piece(bytes: &[u8], from: usize, count: usize) -> &[u8]
+    requires { PAGE_BYTES * (from + count) ≤ length bytes.now }
+    ensures { result.now ≡ take (PAGE_BYTES * count) (drop (PAGE_BYTES * from) bytes.now) }
+{
+    let start = PAGE_BYTES * from;
+    &bytes[start..start + PAGE_BYTES * count]
+}
+
+fn put_number(numbers: &mut [u32], at: usize, number: u32)
+    requires { at < length numbers.old }
+    ensures { numbers.new ≡ set numbers.old at number }
+{
+    numbers[at] = number;
+}
+
+// Puts a page's bytes over those at a place.
+fn put_bytes(bytes: &mut [u8], at: usize, page: &[u8])
+    requires within { PAGE_BYTES * at + PAGE_BYTES ≤ length bytes.old }
+    requires page { length page.now ≡ PAGE_BYTES }
+    ensures { bytes.new ≡ put_at PAGE_BYTES at page.now bytes.old }
+{
+    let start = PAGE_BYTES * at;
+    bytes[start..start + PAGE_BYTES].copy_from_slice(page);
+}
