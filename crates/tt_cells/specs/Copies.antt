@@ -1,11 +1,14 @@
 -- Copies of pages that lie side by side: the room for them, and those that are there.
 use Rattle.std.proofs.Common.{◌≡◌, ◌≤◌, ◌<◌, ◌+◌, ◌*◌, ℕ, zero, suc, List, [], ◌∷◌, ◌++◌, length, take, drop, map, refl, sym, ◌∙◌, ap, ap₂, arith, length-append, length-take, length-drop, set, slice_index}
+use Rattle.std.specs.Prelude.{Vec}
+use Rattle.std.specs.declared.alloc.Global.{Global}
 use Rattle.std.specs.List.{All, flat_map}
+use Rattle.std.specs.Vec.{with_items}
 use Rattle.std.specs.Coded.{Coded, code_by, coded×, coded_ℕ, coded_list}
 use Rattle.std.proofs.Math.Nat.{mul-suc, mul-zero, mul-le-mul_left}
 use Rattle.std.proofs.Math.Seq.{take-add}
 use Rattle.std.proofs.lemmas.List.Elements.{All-cons}
-use Rattle.std.proofs.lemmas.List.{take_at, take-take, drop-drop, drop-take, drop-append-le, take-append-le, take_more_set, length-take-le, length-set, get_or-take}
+use Rattle.std.proofs.lemmas.List.{take_at, take-take, drop-drop, drop-take, drop-append-le, take-append-le, take_more_set, length-take-le, length-set, get_or-take, with_items_is}
 use Rattle.tt_cells.specs.declared.cells.PageCopy.{PageCopy}
 use Rattle.tt_cells.specs.declared.TheConstants.{PAGE_BYTES}
 use Rattle.tt_cells.specs.declared.copies.TheConstants.{COPIES_MOST}
@@ -213,3 +216,22 @@ kept_more count numbers buffer numbers' buffer' spare spare' copy kept less long
       buffer = filled ∙ kept.buffer ∙ ap (λ (k : ℕ). PAGE_BYTES * k) (sym counted);
       spared = spared;
     }
+
+-- what a vector of numbers and a vector of bytes have when a copy was put at a place
+module _ (numbers buffer : Vec ℕ Global) (count : ℕ) (n b : List ℕ) (spare copy : PageCopy)
+    (kept : AreKept count numbers.items buffer.items spare) (less : count < length numbers.items) (long : length copy.bytes ≡ PAGE_BYTES)
+    (number : n ≡ set numbers.items count copy.page) (bytes : b ≡ put_at PAGE_BYTES count copy.bytes buffer.items) where
+  within : PAGE_BYTES * count + PAGE_BYTES ≤ length buffer.items
+  within = omega (arith, one_within PAGE_BYTES count (length numbers.items) less, kept.buffer)
+
+  numbers_are : (with_items numbers n).items ≡ set numbers.items count copy.page
+  numbers_are = with_items_is numbers n (ap length number ∙ length-set numbers.items count copy.page ∙ sym numbers.ok.0) ∙ number
+
+  bytes_are : (with_items buffer b).items ≡ put_at PAGE_BYTES count copy.bytes buffer.items
+  bytes_are = with_items_is buffer b (ap length bytes ∙ length-put_at PAGE_BYTES count copy.bytes buffer.items long within ∙ sym buffer.ok.0) ∙ bytes
+
+  pub put_kept : (spare' : PageCopy) → length spare'.bytes ≡ PAGE_BYTES → AreKept (count + 1) (with_items numbers n).items (with_items buffer b).items spare'
+  put_kept spare' spared = kept_more count numbers.items buffer.items _ _ spare spare' copy kept less long spared numbers_are bytes_are
+
+  pub put_copies : copies_in (count + 1) (with_items numbers n).items (with_items buffer b).items ≡ with_copy copy (copies_in count numbers.items buffer.items)
+  put_copies = ap₂ (copies_in (count + 1)) numbers_are bytes_are ∙ copies_in_more count numbers.items buffer.items copy less kept.buffer long

@@ -102,8 +102,7 @@ impl PageCopies {
         ensures { self.new ≡ with_copy copy.now self.old }
     {
         let at = self.count as usize;
-        put_number(&mut self.numbers, at, copy.page);
-        put_bytes(&mut self.bytes, at, copy.bytes.as_slice());
+        put(&mut self.numbers, &mut self.bytes, at, copy);
         self.count += 1;
     }
 
@@ -119,8 +118,7 @@ impl PageCopies {
         let _pages = cells.pages();
         cells.copy_page(file, page, &mut self.spare);
         let at = self.count as usize;
-        put_number(&mut self.numbers, at, page);
-        put_bytes(&mut self.bytes, at, self.spare.bytes.as_slice());
+        put(&mut self.numbers, &mut self.bytes, at, &self.spare);
         self.count += 1;
     }
 }
@@ -159,19 +157,15 @@ fn piece(bytes: &[u8], from: usize, count: usize) -> &[u8]
     &bytes[start..start + PAGE_BYTES * count]
 }
 
-fn put_number(numbers: &mut [u32], at: usize, number: u32)
-    requires { at < length numbers.old }
-    ensures { numbers.new ≡ set numbers.old at number }
+// Puts a copy's number and its bytes over those at a place.
+fn put(numbers: &mut [u32], bytes: &mut [u8], at: usize, copy: &PageCopy)
+    requires number { at < length numbers.old }
+    requires bytes { PAGE_BYTES * at + PAGE_BYTES ≤ length bytes.old }
+    requires copy { length copy.now.bytes ≡ PAGE_BYTES }
+    ensures number { numbers.new ≡ set numbers.old at copy.now.page }
+    ensures bytes { bytes.new ≡ put_at PAGE_BYTES at copy.now.bytes bytes.old }
 {
-    numbers[at] = number;
-}
-
-// Puts a page's bytes over those at a place.
-fn put_bytes(bytes: &mut [u8], at: usize, page: &[u8])
-    requires within { PAGE_BYTES * at + PAGE_BYTES ≤ length bytes.old }
-    requires page { length page.now ≡ PAGE_BYTES }
-    ensures { bytes.new ≡ put_at PAGE_BYTES at page.now bytes.old }
-{
+    numbers[at] = copy.page;
     let start = PAGE_BYTES * at;
-    bytes[start..start + PAGE_BYTES].copy_from_slice(page);
+    bytes[start..start + PAGE_BYTES].copy_from_slice(copy.bytes.as_slice());
 }
