@@ -20,3 +20,7 @@ PLACES_END = 2097152
 -- there are at most so many pages
 abbrev pub PAGES_END : ℕ
 PAGES_END = 65536
+
+-- there is room for at most so many copies of pages
+abbrev pub COPIES_MOST : ℕ
+COPIES_MOST = 256

@@ -6,16 +6,12 @@
 //! of pages. No call but `new` takes memory.
 ghost use Rattle.std.specs.Prelude.{◌≡◌, ◌<◌, ◌≤◌, ◌+◌, ◌*◌, ◌++◌, length, take, drop, set, slice_index, IfOk};
 ghost use Rattle.tt_cells.specs.Book.{without_stale};
-ghost use Rattle.tt_cells.specs.Copies.{AreSound, copy_of, joined, no_copies, pages_of, put_at, with_copy};
+ghost use Rattle.tt_cells.specs.Copies.{AreSound, copy_of, joined, no_copies, numbered, pages_of, put_at, with_copy};
 
-use crate::PAGE_BYTES;
-use crate::cells::{Cells, PageCopy};
+use crate::cells::Cells;
+use crate::{COPIES_MOST, PAGE_BYTES};
 use std::alloc::{AllocError, Global};
 use std::marker::Model;
-use tt_value::List;
-
-/// There is room for at most so many copies.
-pub const COPIES_MOST: u32 = 256;
 
 /// Copies of pages, side by side in their order. Contracts see how many there may be, and the copies
 /// that are there.
@@ -24,7 +20,6 @@ pub struct PageCopies {
     count: u32,
     numbers: Vec<u32>,
     bytes: Vec<u8>,
-    spare: PageCopy,
 }
 
 impl Model for PageCopies {
@@ -36,7 +31,7 @@ impl Model for PageCopies {
 
     ghost view = { λ c. copies_in c.count c.numbers.items c.bytes.items };
 
-    ghost invariant = { λ c. AreKept c.count c.numbers.items c.bytes.items c.spare };
+    ghost invariant = { λ c. AreKept c.count c.numbers.items c.bytes.items };
 }
 
 impl PageCopies {
@@ -50,10 +45,6 @@ impl PageCopies {
             count: 0,
             numbers: blank_numbers(alloc, room as usize)?,
             bytes: blank_bytes(alloc, PAGE_BYTES * room as usize)?,
-            spare: PageCopy {
-                page: 0,
-                bytes: List::from_vec(blank_bytes(alloc, PAGE_BYTES)?),
-            },
         })
     }
 
@@ -95,36 +86,20 @@ impl PageCopies {
         self.count = 0;
     }
 
-    /// Puts a copy behind the others.
-    pub fn push(&mut self, copy: &PageCopy)
+    /// Puts a copy of a page behind the others.
+    pub fn push(&mut self, page: u32, bytes: &[u8])
         requires room { length self.old.copies < self.old.room }
-        requires bytes { length copy.now.bytes ≡ PAGE_BYTES }
-        ensures { self.new ≡ with_copy copy.now self.old }
+        requires bytes { length bytes.now ≡ PAGE_BYTES }
+        ensures { self.new ≡ with_copy (numbered page bytes.now) self.old }
     {
         let at = self.count as usize;
-        put(&mut self.numbers, &mut self.bytes, at, copy);
-        self.count += 1;
-    }
-
-    // Puts a copy of a page of these cells behind the others, and the file then has the page.
-    fn push_page(&mut self, cells: &mut Cells, file: u8, page: u32)
-        requires file { file ≤ 1 }
-        requires page { page < cells.old.pages }
-        requires room { length self.old.copies < self.old.room }
-        ensures cells { cells.new ≡ without_stale file page cells.old }
-        ensures copies { self.new ≡ with_copy (copy_of page cells.old) self.old }
-    {
-        // That the cells are sound is what gives the copy a page's bytes.
-        let _pages = cells.pages();
-        cells.copy_page(file, page, &mut self.spare);
-        let at = self.count as usize;
-        put(&mut self.numbers, &mut self.bytes, at, &self.spare);
+        put(&mut self.numbers, &mut self.bytes, at, page, bytes);
         self.count += 1;
     }
 }
 
 impl Cells {
-    /// Puts a copy of a page behind the others, and the file then has the page.
+    /// Puts a copy of a page behind the others, and the file then has the page. It takes no memory.
     pub fn copy_next(&mut self, file: u8, page: u32, into: &mut PageCopies)
         requires file { file ≤ 1 }
         requires page { page < self.old.pages }
@@ -132,7 +107,8 @@ impl Cells {
         ensures cells { self.new ≡ without_stale file page self.old }
         ensures copies { into.new ≡ with_copy (copy_of page self.old) into.old }
     {
-        into.push_page(self, file, page);
+        into.push(page, self.bytes_of(page));
+        self.clean(file, page);
     }
 }
 
@@ -157,15 +133,15 @@ fn piece(bytes: &[u8], from: usize, count: usize) -> &[u8]
     &bytes[start..start + PAGE_BYTES * count]
 }
 
-// Puts a copy's number and its bytes over those at a place.
-fn put(numbers: &mut [u32], bytes: &mut [u8], at: usize, copy: &PageCopy)
+// Puts a page's number and its bytes over those at a place.
+fn put(numbers: &mut [u32], bytes: &mut [u8], at: usize, page: u32, copied: &[u8])
     requires number { at < length numbers.old }
     requires bytes { PAGE_BYTES * at + PAGE_BYTES ≤ length bytes.old }
-    requires copy { length copy.now.bytes ≡ PAGE_BYTES }
-    ensures number { numbers.new ≡ set numbers.old at copy.now.page }
-    ensures bytes { bytes.new ≡ put_at PAGE_BYTES at copy.now.bytes bytes.old }
+    requires copied { length copied.now ≡ PAGE_BYTES }
+    ensures number { numbers.new ≡ set numbers.old at page }
+    ensures bytes { bytes.new ≡ put_at PAGE_BYTES at copied.now bytes.old }
 {
-    numbers[at] = copy.page;
+    numbers[at] = page;
     let start = PAGE_BYTES * at;
-    bytes[start..start + PAGE_BYTES].copy_from_slice(copy.bytes.as_slice());
+    bytes[start..start + PAGE_BYTES].copy_from_slice(copied);
 }

@@ -1,6 +1,7 @@
 use Rattle.std.proofs.Common.{◌≤◌, ◌+◌, ◌*◌, ◌∙◌, ℕ, List, length, take, drop, ap, sym, arith}
-use Rattle.tt_cells.specs.declared.TheConstants.{PAGE_BYTES}
-use Rattle.tt_cells.specs.Copies.{Copies, joined, joined_run, length-copies_in, within_buffer}
+use Rattle.tt_cells.specs.Limits.{PAGE_BYTES}
+use Rattle.tt_cells.specs.Copies.{Copies, joined}
+use Rattle.tt_cells.specs.CopyLaws.{joined_run, length-copies_in, within_buffer}
 use Rattle.std.proofs.lemmas.List.{length-take-le}
 use Rattle.tt_cells.proofs.copies.PageCopies.bytes_of_run.Goals as goal
 

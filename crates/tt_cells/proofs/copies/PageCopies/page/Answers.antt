@@ -1,6 +1,7 @@
 use Rattle.std.proofs.Common.{◌≡◌, ◌<◌, ◌∙◌, length, slice_index, ap, sym, arith}
 use Rattle.std.proofs.lemmas.List.{get_or_read}
-use Rattle.tt_cells.specs.Copies.{Copies, length-copies_in, page-copies_in, pages_of}
+use Rattle.tt_cells.specs.Copies.{Copies, pages_of}
+use Rattle.tt_cells.specs.CopyLaws.{length-copies_in, page-copies_in}
 use Rattle.tt_cells.proofs.copies.PageCopies.page.Goals as goal
 
 pub index-requires : goal.index-requires

@@ -1,4 +1,4 @@
-use Rattle.tt_cells.proofs.MarkLemmas.{all_below, not_full}
+use Rattle.tt_cells.proofs.MarkLemmas.{all_below}
 use Rattle.tt_cells.proofs.place_set.PlaceSet.least_absent.Goals as goal
 
 pub least_absent_in-requires-clause-before : goal.least_absent_in-requires-clause-before
