@@ -1,0 +1,11 @@
+use Rattle.std.proofs.Common.{sym, ap, ◌∙◌}
+use Rattle.std.specs.Map.{lookup}
+use Rattle.std.specs.BTreeMap.{is_at}
+use Rattle.std.specs.Ordering.{int_cmp}
+use Rattle.tt_index.proofs.Changes.{removed}
+use Rattle.tt_index.proofs.numbers.forget_key.Goals as goal
+
+pub returns : goal.returns
+returns c =
+    let kept = c.remove.ensures.entries in
+    kept ∙ removed (is_at (int_cmp c.args.key.now)) c.args.keys.now.entries (ap (lookup (is_at (int_cmp c.args.key.now))) (sym kept) ∙ c.remove.ensures.updates.1)

@@ -1,0 +1,27 @@
+//! The laws of the definitions, for callers. Each is the contract of a function that does nothing.
+ghost use Rattle.tt_index.specs.Laws.{IndexesAreSeen, KeysAreTold, PairsAreSeen, PlacesAreSeen, RangesAreSeen};
+
+/// Which pairs there are behind each call.
+pub fn pairs_are_seen()
+    ensures { PairsAreSeen }
+{}
+
+/// Which places each key has behind each call.
+pub fn places_are_seen()
+    ensures { PlacesAreSeen }
+{}
+
+/// Which indexes there are: none that is empty takes memory.
+pub fn indexes_are_seen()
+    ensures { IndexesAreSeen }
+{}
+
+/// Which places a range gives: those of the pairs in its bounds.
+pub fn ranges_are_seen()
+    ensures { RangesAreSeen }
+{}
+
+/// Keys that are equal in the order are equal.
+pub fn keys_are_told()
+    ensures { KeysAreTold }
+{}
