@@ -1,21 +1,21 @@
 -- What sessions hold, as names are taken and given back.
-use Rattle.std.proofs.Common.{◌≡◌, ◌≢◌, ◌⊎◌, ◌<◌, ◌≤◌, ◌+◌, ◌-◌, ℕ, zero, suc, Bool, true, false, cond, ◌||◌, List, [], ◌∷◌, ◌++◌, length, get_or, set, map, Option, Some, None, refl, sym, ap, ap₂, ◌∙◌, subst, arith, inl, inr, is_some, true≢false}
+use Rattle.std.proofs.Common.{◌≡◌, ◌≢◌, ◌<◌, ◌≤◌, ℕ, zero, suc, Bool, true, false, cond, List, [], ◌∷◌, ◌++◌, length, set, map, Option, Some, None, refl, sym, ap, ap₂, ◌∙◌, arith, inl, inr}
 use Rattle.std.specs.Prelude.{slice_get, nat_eq}
-use Rattle.std.specs.List.{filter_map, cons_option, list_any, IsDistinct}
+use Rattle.std.specs.List.{cons_option, list_any, IsDistinct}
 use Rattle.std.specs.Map.{keys_of, lookup}
-use Rattle.std.specs.Option.{option_map, option_and_then}
+use Rattle.std.specs.Option.{option_map}
 use Rattle.std.specs.Set.{remove_key}
 use Rattle.std.proofs.lemmas.Bool.{cases_eq, cases_lt, eq-eqb, ne_eqb, or_parts, or_from, or_left, or_right}
-use Rattle.std.proofs.lemmas.List.{get_or-set_same, get_or-set_other, get_or_push, get_or_append_left, get_or_past, length_push, get_or-append_right}
+use Rattle.std.proofs.lemmas.List.{get_or-set_same, get_or-set_other, get_or_push, get_or_append_left, get_or_past, length_push}
 use Rattle.std.proofs.lemmas.List.Elements.{filter_map-append}
 use Rattle.std.proofs.lemmas.Map.Entries.{lookup_from_place}
-use Rattle.std.proofs.lemmas.Option.{same_Some, slice_get-get_or, slice_get_within}
+use Rattle.std.proofs.lemmas.Option.{same_Some}
 use Rattle.tt_txn.specs.declared.held.Held.{Held}
 use Rattle.tt_txn.specs.declared.lock_name.LockName.{LockName}
 use Rattle.tt_txn.specs.Names.{same_name}
 use Rattle.tt_txn.specs.NameLaws.{same_name-Decides, same_name-equivalence}
-use Rattle.tt_txn.specs.Locks.{Holdings, names_of, is_session, held, slot_in, slots_of, slot_at, name_at, held_at, named, names_in, IsTied, IsTiedBut}
-use Rattle.tt_txn.proofs.Ties.{Entry, Slots, same_names, slot_within, session_within, none_some, same_pair, within_entries}
+use Rattle.tt_txn.specs.Locks.{names_of, held, slot_in, slots_of, slot_at, held_at, named, names_in, IsTied, IsTiedBut}
+use Rattle.tt_txn.proofs.Ties.{Entry, Slots, same_names, none_some, same_pair, within_entries}
 
 -- the names of a session, by its slots
 pub names_of_map : (es : List Entry) (lists : List Slots) (s : ℕ) → names_of s (map (names_in es) lists) ≡ names_in es (slots_of s lists)

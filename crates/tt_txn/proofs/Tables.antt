@@ -1,14 +1,13 @@
 -- The number of each session's transaction, and that a session without one holds nothing.
-use Rattle.std.proofs.Common.{◌≡◌, ◌≢◌, ◌⊎◌, ◌<◌, ◌≤◌, ℕ, Bool, true, false, cond, ◌||◌, List, [], ◌∷◌, length, get_or, set, Option, Some, None, is_some, refl, sym, ap, ap₂, ◌∙◌, subst, arith, ltb, inl, inr, true≢false}
+use Rattle.std.proofs.Common.{◌≡◌, ◌<◌, ℕ, Bool, true, false, cond, ◌||◌, List, [], ◌∷◌, length, get_or, set, Option, Some, None, is_some, refl, sym, ap, ◌∙◌, subst, ltb, inl, inr, true≢false}
 use Rattle.std.specs.Prelude.{nat_eq}
 use Rattle.std.specs.List.{list_any, find}
 use Rattle.std.specs.Option.{option_map}
-use Rattle.std.proofs.lemmas.Bool.{cases_eq, eq-eqb, ne_eqb, eqb-true, eqb-false, or_parts, or_from, or_left, or_right}
+use Rattle.std.proofs.lemmas.Bool.{cases_eq, eq-eqb, ne_eqb, eqb-true, eqb-false, or_parts, or_left, or_right}
 use Rattle.std.proofs.lemmas.List.{get_or-set_same, get_or-set_other}
 use Rattle.std.proofs.lemmas.Option.{same_Some}
 use Rattle.tt_txn.specs.declared.lock_name.LockName.{LockName}
 use Rattle.tt_txn.specs.Locks.{Holdings, names_of, Holds}
-use Rattle.tt_txn.specs.Kept.{HasNumbers}
 use Rattle.tt_txn.specs.Txns.{LiveTransaction, Transactions, has_number, is_of, transaction, number_of, with_begun, with_changed, without, IsSession, AllOfSessions, AtMostOne}
 
 none_some : {A : Type 0} (x : A) → None ≡ Some x → ⊥

@@ -1,14 +1,14 @@
 -- Slots and entries that tell of one another, as names are taken and given back.
-use Rattle.std.proofs.Common.{◌≡◌, ◌≢◌, ◌⊎◌, ◌<◌, ◌≤◌, ◌+◌, ◌-◌, ℕ, zero, suc, Bool, true, false, cond, List, [], ◌∷◌, ◌++◌, length, get_or, set, take, drop, Option, Some, None, refl, sym, ap, ap₂, ◌∙◌, subst, arith, inl, inr}
-use Rattle.std.specs.Prelude.{slice_get, nat_eq}
-use Rattle.std.specs.List.{filter_map, cons_option, list_any}
-use Rattle.std.specs.Option.{option_map, option_and_then}
+use Rattle.std.proofs.Common.{◌≡◌, ◌≢◌, ◌⊎◌, ◌<◌, ◌-◌, ℕ, zero, suc, List, [], ◌∷◌, length, get_or, set, Option, Some, None, refl, sym, ap, ap₂, ◌∙◌, arith, inl, inr}
+use Rattle.std.specs.Prelude.{slice_get}
+use Rattle.std.specs.List.{cons_option}
+use Rattle.std.specs.Option.{option_map}
 use Rattle.std.proofs.lemmas.Bool.{cases_eq, cases_lt}
 use Rattle.std.proofs.lemmas.List.{get_or-set_same, get_or-set_other}
 use Rattle.std.proofs.lemmas.Option.{same_Some, slice_get-get_or}
 use Rattle.tt_txn.specs.declared.held.Held.{Held}
 use Rattle.tt_txn.specs.declared.lock_name.LockName.{LockName}
-use Rattle.tt_txn.specs.Locks.{Holdings, names_of, held, slot_in, slots_of, slot_at, name_at, held_at, named, names_in, IsTied, IsTiedBut, Moves}
+use Rattle.tt_txn.specs.Locks.{held, slot_in, slots_of, slot_at, held_at, named, names_in, IsTied, IsTiedBut, Moves}
 
 abbrev pub Entry : Type 0
 Entry = LockName × Held

@@ -1,18 +1,17 @@
 -- What is seen of the live transactions: the list, with the names that the table of locks has for each session.
-use Rattle.std.proofs.Common.{◌≡◌, ◌≢◌, ◌⊎◌, ◌<◌, ◌≤◌, ℕ, Bool, true, false, cond, not, ◌&&◌, ◌||◌, List, [], ◌∷◌, ◌++◌, map, length, get_or, Option, Some, None, is_some, refl, sym, ap, ap₂, ◌∙◌, subst, arith, ltb, eqb, inl, inr, true≢false}
+use Rattle.std.proofs.Common.{◌≡◌, ◌≢◌, ℕ, Bool, true, false, cond, not, ◌&&◌, ◌||◌, List, [], ◌∷◌, ◌++◌, map, Option, Some, None, is_some, refl, sym, ap, ap₂, ◌∙◌, subst, arith, ltb, inl, inr, true≢false}
 use Rattle.std.specs.Prelude.{nat_eq}
-use Rattle.std.specs.List.{list_any, find, position}
+use Rattle.std.specs.List.{list_any, find}
 use Rattle.std.specs.Option.{option_map}
 use Rattle.std.specs.Set.{remove_key}
-use Rattle.std.proofs.lemmas.Bool.{cases_eq, eq-eqb, ne_eqb, eqb-true, eqb-false, or_parts, or_from, or_left, or_right}
+use Rattle.std.proofs.lemmas.Bool.{cases_eq, eq-eqb, ne_eqb, eqb-true, eqb-false, or_parts, or_left, or_right}
 use Rattle.std.proofs.lemmas.Option.{same_Some}
 use Rattle.tt_value.specs.declared.position.Position.{Position}
 use Rattle.tt_txn.specs.declared.lock_name.LockName.{LockName}
-use Rattle.tt_txn.specs.declared.noted.Noted.{Noted}
 use Rattle.tt_txn.specs.Names.{same_name}
 use Rattle.tt_txn.specs.Locks.{Holdings, names_of, is_session, Holds}
 use Rattle.tt_txn.specs.Kept.{with_names, seen}
-use Rattle.tt_txn.specs.Txns.{LiveTransaction, Transactions, has_number, is_of, transaction, is_live, number_of, with_begun, with_changed, without, has_name, holder, other_holder, is_other_with, holds, is_held_by, taking, giving_back, noted_in, noted_by, has_changed, first_that_changed, least_live, firsts, AllAbove, IsAscending, AtMostOne}
+use Rattle.tt_txn.specs.Txns.{LiveTransaction, Transactions, has_number, is_of, transaction, is_live, number_of, with_begun, with_changed, without, has_name, holder, other_holder, is_other_with, holds, is_held_by, taking, giving_back, noted_in, noted_by, has_changed, first_that_changed, firsts, AllAbove, IsAscending, AtMostOne}
 use Rattle.tt_txn.proofs.Holdings.{none_removed}
 
 none_some : {A : Type 0} (x : A) → None ≡ Some x → ⊥

@@ -1,7 +1,6 @@
 -- What the parts of the live transactions stand for together.
 use Rattle.std.specs.Prelude.{◌≡◌, ℕ, List, [], map, get_or, Option, None}
 use Rattle.std.specs.HashMap.{HashMap}
-use Rattle.tt_txn.specs.declared.lock_name.LockName.{LockName}
 use Rattle.tt_txn.specs.declared.spots.Spot.{Spot}
 use Rattle.tt_txn.specs.Locks.{Holdings, names_of}
 use Rattle.tt_txn.specs.Spots.{HasSpots}

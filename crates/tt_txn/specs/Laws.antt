@@ -1,9 +1,9 @@
 -- What the calls leave, for those who make several.
-use Rattle.std.specs.Prelude.{◌≡◌, ◌≢◌, ℕ, true, false, [], drop, Option, None, Some}
+use Rattle.std.specs.Prelude.{◌≡◌, ◌≢◌, ℕ, false, [], drop, None, Some}
 use Rattle.tt_value.specs.declared.position.Position.{Position}
 use Rattle.tt_txn.specs.declared.lock_name.LockName.{LockName}
 use Rattle.tt_txn.specs.declared.noted.Noted.{Noted}
-use Rattle.tt_txn.specs.Txns.{LiveTransaction, Transactions, IsSession, begun, with_begun, with_changed, without, is_live, number_of, holder, other_holder, taking, giving_back, noting, undoing, noted_by, first_before, IsFreeFor, IsWhole}
+use Rattle.tt_txn.specs.Txns.{Transactions, IsSession, begun, with_begun, with_changed, without, is_live, number_of, holder, other_holder, taking, giving_back, noting, undoing, noted_by, first_before, IsFreeFor, IsWhole}
 
 -- Whatever is called where it may be, the live ones stay whole.
 pub record CallsKeepWhole : Type 0 where

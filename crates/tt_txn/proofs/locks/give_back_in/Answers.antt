@@ -1,14 +1,10 @@
-use Rattle.std.proofs.Common.{◌≡◌, ◌<◌, ◌∙◌, ℕ, ap, sym, refl, Some, None, Option, length, get_or, set, List, [], true, subst, nat_eq, cond}
-use Rattle.std.specs.List.{list_any}
-use Rattle.std.specs.Prelude.{slice_get}
-use Rattle.std.specs.Map.{lookup, keys_of}
+use Rattle.std.proofs.Common.{◌≡◌, ◌<◌, ◌∙◌, ℕ, ap, sym, None, length, get_or, set, List, [], subst, nat_eq, cond}
+use Rattle.std.specs.Map.{lookup}
 use Rattle.std.proofs.lemmas.List.{get_or_default}
 use Rattle.std.proofs.lemmas.Map.Made.{lookup_key_passes}
-use Rattle.tt_txn.specs.declared.held.Held.{Held}
-use Rattle.tt_txn.specs.declared.lock_name.LockName.{LockName}
 use Rattle.tt_txn.specs.Names.{same_name}
-use Rattle.tt_txn.specs.Locks.{slot_in, slots_of, slot_at, names_in, IsTied}
-use Rattle.tt_txn.proofs.Ties.{Slots, Entry, session_within, slot_within}
+use Rattle.tt_txn.specs.Locks.{slot_in, slots_of, names_in}
+use Rattle.tt_txn.proofs.Ties.{Slots, session_within, slot_within}
 use Rattle.tt_txn.proofs.Holdings.{IsCut, freed, loosened, none_removed, none_holds, held_is, given_back}
 use Rattle.tt_txn.proofs.locks.give_back_in.Goals as goal
 

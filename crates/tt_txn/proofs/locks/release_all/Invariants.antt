@@ -2,8 +2,6 @@ use Rattle.std.proofs.Common.{◌≡◌, ◌≢◌, ◌<◌, ℕ, length}
 use Rattle.std.specs.List.{IsDistinct}
 use Rattle.std.specs.Map.{keys_of}
 use Rattle.tt_txn.specs.Names.{same_name}
-use Rattle.tt_txn.specs.declared.held.Held.{Held}
-use Rattle.tt_txn.specs.declared.lock_name.LockName.{LockName}
 use Rattle.tt_txn.specs.Locks.{names_in, slots_of, IsTied}
 use Rattle.tt_txn.proofs.Ties.{Entry, Slots}
 use Rattle.std.proofs.Common.{List}

@@ -1,4 +1,4 @@
-use Rattle.std.proofs.Common.{◌≡◌, true, false, true≢false, sym, ap, ◌∙◌}
+use Rattle.std.proofs.Common.{true≢false, sym, ap, ◌∙◌}
 use Rattle.std.specs.Option.{is_some}
 use Rattle.tt_txn.proofs.Places.{found_at}
 use Rattle.tt_txn.proofs.table.index_for.Goals as goal

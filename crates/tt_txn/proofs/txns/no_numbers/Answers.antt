@@ -1,4 +1,4 @@
-use Rattle.std.proofs.Common.{◌≡◌, ◌<◌, ℕ, None, length, get_or, rules, inl, inr, arith}
+use Rattle.std.proofs.Common.{◌≡◌, None, length, rules, inl, inr, arith}
 use Rattle.std.proofs.lemmas.Bool.{cases_lt}
 use Rattle.std.proofs.lemmas.List.{get_or_past}
 use Rattle.tt_txn.proofs.txns.no_numbers.Goals as goal

@@ -1,4 +1,4 @@
-use Rattle.std.proofs.Common.{◌≡◌, ◌∙◌, [], List, ap, sym, cond, nat_eq}
+use Rattle.std.proofs.Common.{◌∙◌, [], List, ap, sym, cond, nat_eq}
 use Rattle.tt_txn.specs.declared.lock_name.LockName.{LockName}
 use Rattle.tt_txn.specs.Locks.{Holdings, names_of}
 use Rattle.tt_txn.proofs.Holdings.{names_of_map}

@@ -1,4 +1,4 @@
-use Rattle.std.proofs.Common.{◌≡◌, ◌∙◌, ap, sym}
+use Rattle.std.proofs.Common.{◌∙◌, ap, sym}
 use Rattle.std.specs.Set.{remove_key}
 use Rattle.tt_txn.specs.Names.{same_name}
 use Rattle.tt_txn.specs.Locks.{Holdings, names_of}

@@ -1,8 +1,8 @@
-use Rattle.std.proofs.Common.{◌≡◌, ◌∙◌, ℕ, Option, Some, None, ap, sym, refl}
+use Rattle.std.proofs.Common.{◌≡◌, ◌∙◌, None, ap, sym}
 use Rattle.std.specs.List.{list_any}
 use Rattle.std.specs.Map.{lookup}
 use Rattle.std.proofs.lemmas.Map.Entries.{place_from_lookup}
-use Rattle.tt_txn.specs.Locks.{Holdings, names_of, is_session, names_in, slots_of}
+use Rattle.tt_txn.specs.Locks.{Holdings, names_of, is_session}
 use Rattle.tt_txn.specs.Names.{same_name}
 use Rattle.tt_txn.proofs.Holdings.{names_of_map, none_holds, holder_found}
 use Rattle.tt_txn.proofs.locks.Locks.holder.Goals as goal

@@ -1,7 +1,7 @@
-use Rattle.std.proofs.Common.{◌≡◌, ◌<◌, ◌≤◌, ◌∙◌, ap, sym, arith}
+use Rattle.std.proofs.Common.{◌≤◌, ◌∙◌, ap, sym, arith}
 use Rattle.tt_txn.specs.Names.{same_name}
 use Rattle.tt_txn.specs.Kept.{seen}
-use Rattle.tt_txn.specs.Txns.{holder, IsSession}
+use Rattle.tt_txn.specs.Txns.{holder}
 use Rattle.tt_txn.proofs.Books.{holder_seat}
 use Rattle.tt_txn.proofs.Views.{none_holder, some_holder}
 use Rattle.tt_txn.proofs.txns.Txns.holder.Goals as goal
