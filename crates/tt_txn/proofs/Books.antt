@@ -40,12 +40,12 @@ holder_seat hs p s vs says vacant whole = seat_of s vs whole.in_range (λ none. 
 module _ {S : Type 0} (hs : Holdings) (firsts : HashMap ℕ Spot S) (own : List (Option ℕ)) (vs : Transactions) (kept : IsKept hs firsts own vs) where
   pub after_begin : (x : LiveTransaction) → IsSession x.session → x.noted ≡ [] → x.names ≡ [] → number_of x.session vs ≡ None → is_live x.number vs ≡ false → x.session < length own →
       IsKept hs firsts (set own x.session (Some x.number)) (with_begun x vs)
-  after_begin x within noted names none new seat =
+  after_begin x within noted names none new in_range =
       let pair = kept_begun firsts x vs within noted names none new (kept.whole, kept.spots) in
       record {
         whole = pair.0;
         spots = pair.1;
-        numbers = λ t. put_number own x.session (Some x.number) t seat ∙ ap (λ (o : Option ℕ). cond (nat_eq x.session t) (Some x.number) o) (kept.numbers t) ∙ sym (number_begun x t vs none);
+        numbers = λ t. put_number own x.session (Some x.number) t in_range ∙ ap (λ (o : Option ℕ). cond (nat_eq x.session t) (Some x.number) o) (kept.numbers t) ∙ sym (number_begun x t vs none);
         vacant = vacant_begun hs x vs none kept.vacant;
       }
 
@@ -112,12 +112,12 @@ module _ {S : Type 0} (hs : Holdings) (firsts : HashMap ℕ Spot S) (own : List 
 
   pub after_ending : (gs : Holdings) (n : ℕ) (m : LiveTransaction) → transaction n vs ≡ Some m → noted_by n vs ≡ [] → Holds m.session [] hs gs → m.session < length own →
       IsKept gs firsts (set own m.session None) (without n vs)
-  after_ending gs n m is none says seat =
+  after_ending gs n m is none says in_range =
       let pair = kept_without firsts n vs none (kept.whole, kept.spots) in
       let one = kept.whole.sessions m.session in
       record {
         whole = pair.0;
         spots = pair.1;
-        numbers = λ t. put_number own m.session None t seat ∙ ap (λ (o : Option ℕ). cond (nat_eq m.session t) None o) (kept.numbers t) ∙ sym (number_without n m t vs is one);
+        numbers = λ t. put_number own m.session None t in_range ∙ ap (λ (o : Option ℕ). cond (nat_eq m.session t) None o) (kept.numbers t) ∙ sym (number_without n m t vs is one);
         vacant = vacant_ended hs gs n m vs is one says kept.vacant;
       }

@@ -11,7 +11,7 @@ ghost use Rattle.tt_txn.specs.Locks.{names_of, is_session, Holds, names_in, slot
 
 use crate::held::Held;
 use crate::lock_name::LockName;
-use crate::session::SEATS;
+use crate::session::SESSIONS_END;
 use crate::slots::Slots;
 use indexmap::IndexMap;
 use std::alloc::{AllocError, Global};
@@ -22,7 +22,7 @@ use std::marker::Model;
 #[derive(Drop)]
 pub struct Locks {
     names: IndexMap<LockName, Held>,
-    slots: [Slots; SEATS],
+    slots: [Slots; SESSIONS_END],
 }
 
 impl Model for Locks {
@@ -62,7 +62,7 @@ impl Locks {
 
     /// Takes a name that no session holds.
     pub fn take(&mut self, session: u8, name: LockName) -> Result<(), AllocError>
-        requires seat { session < SEATS }
+        requires in_range { session < SESSIONS_END }
         requires free { (s : ℕ) → list_any (same_name name) (names_of s self.old) ≡ false }
         ensures ok { OnOk result (Holds session (names_of session self.old ++ name ∷ []) self.old self.new) }
         ensures err { OnErr result ((s : ℕ) → names_of s self.new ≡ names_of s self.old) }
@@ -79,7 +79,7 @@ impl Locks {
 
     /// Gives all names of a session back, the last first.
     pub fn end(&mut self, session: u8)
-        requires { session < SEATS }
+        requires { session < SESSIONS_END }
         ensures { Holds session [] self.old self.new }
     {
         release_all(&mut self.names, &mut self.slots, session as usize);
@@ -132,7 +132,7 @@ fn take_in(
     session: u8,
     name: LockName,
 ) -> Result<(), AllocError>
-    requires seat { session < length slots.old }
+    requires in_range { session < length slots.old }
     requires tied { IsTied slots.old names.old.entries }
     requires unique { IsUnique same_name names.old }
     requires free { get same_name names.old name ≡ None }
@@ -176,7 +176,7 @@ fn give_back_in(names: &mut IndexMap<LockName, Held>, slots: &mut [Slots], name:
 
 // Takes the last slot of a session away, and gives its name back; false where it has none.
 fn release_last(names: &mut IndexMap<LockName, Held>, slots: &mut [Slots], session: usize) -> bool
-    requires seat { session < length slots.old }
+    requires in_range { session < length slots.old }
     requires tied { IsTied slots.old names.old.entries }
     requires unique { IsUnique same_name names.old }
     ensures tied { IsTied slots.new names.new.entries }
@@ -198,7 +198,7 @@ fn release_last(names: &mut IndexMap<LockName, Held>, slots: &mut [Slots], sessi
 
 // Takes all slots of a session away, and gives their names back.
 fn release_all(names: &mut IndexMap<LockName, Held>, slots: &mut [Slots], session: usize)
-    requires seat { session < length slots.old }
+    requires in_range { session < length slots.old }
     requires tied { IsTied slots.old names.old.entries }
     requires unique { IsUnique same_name names.old }
     ensures tied { IsTied slots.new names.new.entries }

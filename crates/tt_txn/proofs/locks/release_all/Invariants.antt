@@ -9,7 +9,7 @@ use Rattle.tt_txn.proofs.locks.release_all.Given as goal
 
 -- while a session's slots are taken away
 pub record IsReleasing (session : ℕ) (first lists : List Slots) (entries es : List Entry) : Type 0 where
-  pub seat : session < length lists
+  pub in_range : session < length lists
   pub tied : IsTied lists es
   pub unique : IsDistinct same_name (keys_of es)
   pub others : (s : ℕ) → s ≢ session → names_in es (slots_of s lists) ≡ names_in entries (slots_of s first)

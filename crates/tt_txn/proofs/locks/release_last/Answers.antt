@@ -21,25 +21,25 @@ release-requires c =
     let s = c.args.session in
     let zs = c.pop.new.self in
     let at = c.in-Some-Some.at in
-    let is = was lists s c.index-slots-session.result zs (Some at) c.requires.seat (c.pop.ensures.some (Some at) (c.in-Some-Some.is ∙ ap Some c.in-Some-Some.field-0-is)) in
-    loosened s (length zs) at lists (set lists s zs) c.args.names.now.entries (last_slot lists s zs (Some at) is) (popped lists s zs (Some at) c.requires.seat is) c.requires.tied
+    let is = was lists s c.index-slots-session.result zs (Some at) c.requires.in_range (c.pop.ensures.some (Some at) (c.in-Some-Some.is ∙ ap Some c.in-Some-Some.field-0-is)) in
+    loosened s (length zs) at lists (set lists s zs) c.args.names.now.entries (last_slot lists s zs (Some at) is) (popped lists s zs (Some at) c.requires.in_range is) c.requires.tied
 
 pub returns-in-Some-None-clause-tied : goal.returns-in-Some-None-clause-tied
 returns-in-Some-None-clause-tied c =
     let lists = c.args.slots.now in
     let s = c.args.session in
     let zs = c.pop.new.self in
-    let is = was lists s c.index-slots-session.result zs None c.requires.seat (c.pop.ensures.some None (c.in-Some-None.is ∙ ap Some c.in-Some-None.field-0-is)) in
+    let is = was lists s c.index-slots-session.result zs None c.requires.in_range (c.pop.ensures.some None (c.in-Some-None.is ∙ ap Some c.in-Some-None.field-0-is)) in
     same_ties lists (set lists s zs) c.args.names.now.entries
-    (same_cut s (length zs) lists (set lists s zs) (last_slot lists s zs None is) (popped lists s zs None c.requires.seat is)) c.requires.tied
+    (same_cut s (length zs) lists (set lists s zs) (last_slot lists s zs None is) (popped lists s zs None c.requires.in_range is)) c.requires.tied
 
 pub returns-in-Some-None-clause-fewer : goal.returns-in-Some-None-clause-fewer
 returns-in-Some-None-clause-fewer c =
     let lists = c.args.slots.now in
     let s = c.args.session in
     let zs = c.pop.new.self in
-    let is = was lists s c.index-slots-session.result zs None c.requires.seat (c.pop.ensures.some None (c.in-Some-None.is ∙ ap Some c.in-Some-None.field-0-is)) in
-    λ _. shorter lists s zs None c.requires.seat is
+    let is = was lists s c.index-slots-session.result zs None c.requires.in_range (c.pop.ensures.some None (c.in-Some-None.is ∙ ap Some c.in-Some-None.field-0-is)) in
+    λ _. shorter lists s zs None c.requires.in_range is
 
 pub returns-in-Some-Some-clause-fewer : goal.returns-in-Some-Some-clause-fewer
 returns-in-Some-Some-clause-fewer c =
@@ -47,6 +47,6 @@ returns-in-Some-Some-clause-fewer c =
     let s = c.args.session in
     let zs = c.pop.new.self in
     let at = c.in-Some-Some.at in
-    let is = was lists s c.index-slots-session.result zs (Some at) c.requires.seat (c.pop.ensures.some (Some at) (c.in-Some-Some.is ∙ ap Some c.in-Some-Some.field-0-is)) in
-    let less = shorter lists s zs (Some at) c.requires.seat is in
+    let is = was lists s c.index-slots-session.result zs (Some at) c.requires.in_range (c.pop.ensures.some (Some at) (c.in-Some-Some.is ∙ ap Some c.in-Some-Some.field-0-is)) in
+    let less = shorter lists s zs (Some at) c.requires.in_range is in
     λ _. omega (arith, c.release.ensures.counts s, less)

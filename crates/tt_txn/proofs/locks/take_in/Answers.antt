@@ -54,29 +54,29 @@ returns-in-Ok-clause-tied c =
     let lists = c.args.slots.now in
     let es = c.args.names.now.entries in
     let s = c.args.session in
-    let own : length (get_or lists s c.index-slots-session.result) ≡ length (slots_of s lists) = ap length (sym (get_or_default lists s [] c.index-slots-session.result c.requires.seat)) in
+    let own : length (get_or lists s c.index-slots-session.result) ≡ length (slots_of s lists) = ap length (sym (get_or_default lists s [] c.index-slots-session.result c.requires.in_range)) in
     let at : c.len-at.result ≡ length (slots_of s lists) = c.len-at.ensures ∙ own in
-    let is = put_is lists es s c.len-at.result c.len-entry.result c.index-slots-session.result c.push_empty.new.self c.put.new.self c.requires.seat c.len-at.ensures c.in_ok-push_empty.ensures.ok c.len-entry.ensures.len c.put.ensures in
+    let is = put_is lists es s c.len-at.result c.len-entry.result c.index-slots-session.result c.push_empty.new.self c.put.new.self c.requires.in_range c.len-at.ensures c.in_ok-push_empty.ensures.ok c.len-entry.ensures.len c.put.ensures in
     let P : List Entry → Type 0 = λ fs. IsTied (set lists s c.put.new.self) fs in
     let Q : Slots → Type 0 = λ zs. IsTied (set lists s zs) (es ++ (c.args.name, held s (length (slots_of s lists))) ∷ []) in
     subst P (sym (c.in-Ok.ensures.ok ∙ ap (λ a. es ++ (c.args.name, held s a) ∷ []) at))
-    (subst Q (sym is) (tied_taken s (length (slots_of s lists)) c.args.name lists (set lists s (slots_of s lists ++ Some (length es) ∷ [])) es (put_behind lists s (length es) c.requires.seat) c.requires.tied))
+    (subst Q (sym is) (tied_taken s (length (slots_of s lists)) c.args.name lists (set lists s (slots_of s lists ++ Some (length es) ∷ [])) es (put_behind lists s (length es) c.requires.in_range) c.requires.tied))
 
 pub returns-in-Ok-clause-ok : goal.returns-in-Ok-clause-ok
 returns-in-Ok-clause-ok c =
     let lists = c.args.slots.now in
     let es = c.args.names.now.entries in
     let s = c.args.session in
-    let is = put_is lists es s c.len-at.result c.len-entry.result c.index-slots-session.result c.push_empty.new.self c.put.new.self c.requires.seat c.len-at.ensures c.in_ok-push_empty.ensures.ok c.len-entry.ensures.len c.put.ensures in
+    let is = put_is lists es s c.len-at.result c.len-entry.result c.index-slots-session.result c.push_empty.new.self c.put.new.self c.requires.in_range c.len-at.ensures c.in_ok-push_empty.ensures.ok c.len-entry.ensures.len c.put.ensures in
     λ t.
     ap₂ (λ (fs : List Entry) (zs : Slots). names_in fs (slots_of t (set lists s zs))) c.in-Ok.ensures.ok is
-    ∙ names_taken s (c.args.name, held s c.len-at.result) lists es c.requires.seat c.requires.tied t
+    ∙ names_taken s (c.args.name, held s c.len-at.result) lists es c.requires.in_range c.requires.tied t
 
 pub returns-in-Err-clause-tied : goal.returns-in-Err-clause-tied
 returns-in-Err-clause-tied c =
     let lists = c.args.slots.now in
     let s = c.args.session in
-    let same = put_back lists s c.len-at.result c.index-slots-session.result c.push_empty.new.self c.free.new.self c.requires.seat c.len-at.ensures c.in_ok-push_empty.ensures.ok c.free.ensures in
+    let same = put_back lists s c.len-at.result c.index-slots-session.result c.push_empty.new.self c.free.new.self c.requires.in_range c.len-at.ensures c.in_ok-push_empty.ensures.ok c.free.ensures in
     let P : List Entry → Type 0 = λ fs. IsTied (set lists s c.free.new.self) fs in
     subst P (sym c.in-Err.ensures.err) (same_ties lists (set lists s c.free.new.self) c.args.names.now.entries same c.requires.tied)
 
@@ -85,7 +85,7 @@ returns-in-Err-clause-err c =
     let lists = c.args.slots.now in
     let es = c.args.names.now.entries in
     let s = c.args.session in
-    let same = put_back lists s c.len-at.result c.index-slots-session.result c.push_empty.new.self c.free.new.self c.requires.seat c.len-at.ensures c.in_ok-push_empty.ensures.ok c.free.ensures in
+    let same = put_back lists s c.len-at.result c.index-slots-session.result c.push_empty.new.self c.free.new.self c.requires.in_range c.len-at.ensures c.in_ok-push_empty.ensures.ok c.free.ensures in
     λ t.
     ap (λ (fs : List Entry). names_in fs (slots_of t (set lists s c.free.new.self))) c.in-Err.ensures.err
     ∙ same_names es es (slots_of t (set lists s c.free.new.self)) (slots_of t lists) (λ j. ap (named es) (same t j))

@@ -15,9 +15,9 @@ returns-in_err-session-clause-holder c =
 pub bounds-self-inside-session : goal.bounds-self-inside-session
 bounds-self-inside-session c =
     let s = c.in_ok-session.session in
-    let seat : s ≤ 64 =
+    let in_range : s ≤ 64 =
     (holder_seat c.self.inside.locks (same_name c.args.name.now) s (seen c.self.inside.live.items c.self.inside.locks) c.in_ok-session.ensures c.self.invariant.vacant c.self.invariant.whole).1 in
-    omega (arith, seat)
+    omega (arith, in_range)
 
 pub returns-clause-holder : goal.returns-clause-holder
 returns-clause-holder c =

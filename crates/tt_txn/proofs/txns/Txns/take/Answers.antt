@@ -24,8 +24,8 @@ session_of-session-requires-clause-live c =
 taker : (n s : ℕ) (ls xs : Transactions) → xs ≡ ls → Some s ≡ option_map (λ (l : LiveTransaction). l.session) (transaction n xs) → IsOf n s ls
 taker n s ls xs same says = one_of n s ls (says ∙ ap (λ (ms : Transactions). option_map (λ (l : LiveTransaction). l.session) (transaction n ms)) same)
 
-pub take-requires-clause-seat : goal.take-requires-clause-seat
-take-requires-clause-seat c =
+pub take-requires-clause-in_range : goal.take-requires-clause-in_range
+take-requires-clause-in_range c =
     let n = c.args.number in
     let ls = c.self.inside.live.items in
     let hs = c.self.inside.locks in
