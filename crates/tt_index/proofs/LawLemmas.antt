@@ -1,5 +1,5 @@
 -- Which values keys have where those of one are changed, and which pairs there are then.
-use Rattle.std.proofs.Common.{◌≡◌, ℕ, Bool, true, false, cond, not, ◌&&◌, ◌||◌, nat_eq, List, [], ◌∷◌, Option, Some, None, refl, sym, ap, ◌∙◌, unwrap_or, is_some}
+use Rattle.std.proofs.Common.{◌≡◌, ℕ, Bool, true, false, cond, not, ◌&&◌, ◌||◌, nat_eq, if◌then◌else◌, List, [], ◌∷◌, Option, Some, None, refl, sym, ap, ◌∙◌, unwrap_or, is_some}
 use Rattle.std.specs.List.{list_any}
 use Rattle.std.specs.Map.{lookup}
 use Rattle.std.specs.BTreeMap.{is_at, insert_entry}
@@ -7,15 +7,15 @@ use Rattle.std.specs.Cmp.{IsTotalOrder}
 use Rattle.std.specs.Ordering.{nat_cmp, is_eq, match_ordering, ordering_reverse}
 use Rattle.std.specs.declared.cmp.Ordering.{Ordering}
 use Rattle.std.specs.declared.cmp.Ordering.TheVariants.{Less, Equal, Greater}
-use Rattle.std.proofs.lemmas.Bool.{eqb-true}
+use Rattle.std.proofs.lemmas.Bool.{eqb-true, true≢false}
 use Rattle.std.proofs.lemmas.Cmp.{tied_itself, nat_cmp_total}
 use Rattle.std.proofs.lemmas.Map.Entries.{lookup-filter-keys}
 use Rattle.tt_value.specs.Orders.{row_cmp}
 use Rattle.tt_value.specs.OrderLaws.{row_total}
 use Rattle.tt_value.specs.declared.value.Row.{Row}
 use Rattle.tt_index.specs.Entries.{without, values_at, with_values, changed}
-use Rattle.tt_index.specs.Indexes.{Entries, Numbered, entries_of, places_at, places_in, has_pair, with_place, without_place, with_pair, without_pair, without_index}
-use Rattle.tt_index.specs.Laws.{is_pair, IndexesAreSeen, PairsAreSeen, PlacesAreSeen}
+use Rattle.tt_index.specs.Indexes.{Entries, Numbered, entries_of, places_at, places_in, has_pair, with_place, without_place, with_pair, without_pair, without_index, AreAmong}
+use Rattle.tt_index.specs.Laws.{is_pair, UnusedStayEmpty, IndexesAreSeen, PairsAreSeen, PlacesAreSeen}
 use Rattle.tt_index.proofs.PlaceLists.{at_place, same_place}
 use Rattle.tt_index.proofs.Wholes.{same_key}
 
@@ -223,4 +223,39 @@ indexes_are_seen = record {
   dropped = λ index indexes. ap is_some (look_gone nat_cmp nat_cmp_total exact_number index indexes);
   others = entries_without;
   emptied = λ index key place indexes e. ap is_some (look_emptied nat_cmp nat_cmp_total exact_number (changed row_cmp (without_place place) key) index indexes e);
+}
+
+-- ---- indexes that aren't in use
+
+unused_added : (used : ℕ → Bool) (index : ℕ) (key : Row) (place : ℕ) (indexes : Numbered) → used index ≡ true → AreAmong used indexes → AreAmong used (with_pair index key place indexes)
+unused_added used index key place indexes in_use among number unused =
+    values_changed nat_cmp nat_cmp_total exact_number (changed row_cmp (with_place place) key) index number indexes ∙ by (is_at (nat_cmp index) number) refl
+  where
+    by : (b : Bool) → is_at (nat_cmp index) number ≡ b → cond b (changed row_cmp (with_place place) key (entries_of number indexes)) (entries_of number indexes) ≡ []
+    by true h = absurd (true≢false (sym in_use ∙ (ap used (exact_number index number h) ∙ unused)))
+    by false h = among number unused
+
+unused_dropped : (used : ℕ → Bool) (index : ℕ) (key : Row) (place : ℕ) (indexes : Numbered) → AreAmong used indexes → AreAmong used (without_pair index key place indexes)
+unused_dropped used index key place indexes among number unused =
+    values_changed nat_cmp nat_cmp_total exact_number (changed row_cmp (without_place place) key) index number indexes ∙ by (is_at (nat_cmp index) number)
+  where
+    by : (b : Bool) → cond b (changed row_cmp (without_place place) key (entries_of number indexes)) (entries_of number indexes) ≡ []
+    by true = ap (changed row_cmp (without_place place) key) (among number unused)
+    by false = among number unused
+
+unused_without : (used : ℕ → Bool) (index : ℕ) (indexes : Numbered) → AreAmong used indexes → AreAmong (λ number. used number && not (nat_eq index number)) (without_index index indexes)
+unused_without used index indexes among number unused = indexes_are_seen.others index indexes number ∙ by (used number) (nat_eq index number) refl unused
+  where
+    by : (u b : Bool) → used number ≡ u → (u && not b) ≡ false → (if b then [] else entries_of number indexes) ≡ []
+    by u true h e = refl
+    by true false h e = absurd (true≢false e)
+    by false false h e = among number h
+
+pub unused_stay_empty : UnusedStayEmpty
+unused_stay_empty = record {
+  none = λ used number unused. refl;
+  added = unused_added;
+  dropped = unused_dropped;
+  index_dropped = unused_without;
+  more_used = λ used more indexes fewer among number unused. among number (fewer number unused);
 }

@@ -9,7 +9,7 @@ use Rattle.std.specs.Ordering.{nat_cmp, is_eq}
 use Rattle.std.specs.declared.ops.Bound.{Bound}
 use Rattle.tt_value.specs.Orders.{row_cmp}
 use Rattle.tt_value.specs.declared.value.Row.{Row}
-use Rattle.tt_index.specs.Indexes.{Entries, Numbered, entries_of, places_at, places_between, places_in, has_pair, with_place, without_place, with_pair, without_pair, without_index}
+use Rattle.tt_index.specs.Indexes.{Entries, Numbered, entries_of, places_at, places_between, places_in, has_pair, with_place, without_place, with_pair, without_pair, without_index, AreAmong}
 
 -- A key of an index is the given one.
 abbrev pub is_key : ℕ → Row → ℕ → Row → Bool
@@ -57,6 +57,18 @@ pub record IndexesAreSeen : Type 0 where
   pub emptied : (index : ℕ) (key : Row) (place : ℕ) (indexes : Numbered)
       → let left = without_pair index key place indexes in
       entries_of index left ≡ [] → is_there index left ≡ false
+
+-- Indexes that aren't in use are empty, and stay so: pairs are added to those in use alone, and a dropped one is in use no more.
+pub record UnusedStayEmpty : Type 0 where
+  pub none : (used : ℕ → Bool) → AreAmong used []
+  pub added : (used : ℕ → Bool) (index : ℕ) (key : Row) (place : ℕ) (indexes : Numbered) → used index ≡ true → AreAmong used indexes
+      → AreAmong used (with_pair index key place indexes)
+  pub dropped : (used : ℕ → Bool) (index : ℕ) (key : Row) (place : ℕ) (indexes : Numbered) → AreAmong used indexes
+      → AreAmong used (without_pair index key place indexes)
+  pub index_dropped : (used : ℕ → Bool) (index : ℕ) (indexes : Numbered) → AreAmong used indexes
+      → AreAmong (λ number. used number && not (nat_eq index number)) (without_index index indexes)
+  pub more_used : (used more : ℕ → Bool) (indexes : Numbered) → ((number : ℕ) → more number ≡ false → used number ≡ false)
+      → AreAmong used indexes → AreAmong more indexes
 
 -- Which places a range gives: those of the pairs whose keys are between its bounds, and no others.
 pub record RangesAreSeen : Type 0 where

@@ -1,5 +1,5 @@
 //! The laws of the definitions, for callers. Each is the contract of a function that does nothing.
-ghost use Rattle.tt_index.specs.Laws.{IndexesAreSeen, KeysAreTold, PairsAreSeen, PlacesAreSeen, RangesAreSeen};
+ghost use Rattle.tt_index.specs.Laws.{IndexesAreSeen, KeysAreTold, PairsAreSeen, PlacesAreSeen, RangesAreSeen, UnusedStayEmpty};
 
 /// Which pairs there are behind each call.
 pub fn pairs_are_seen()
@@ -14,6 +14,11 @@ pub fn places_are_seen()
 /// Which indexes there are: none that is empty takes memory.
 pub fn indexes_are_seen()
     ensures { IndexesAreSeen }
+{}
+
+/// Indexes that aren't in use, as those that no catalog has, are empty and stay so.
+pub fn unused_stay_empty()
+    ensures { UnusedStayEmpty }
 {}
 
 /// Which places a range gives: those of the pairs in its bounds.
