@@ -1,9 +1,9 @@
 -- The engine behind the Change of an insert.
-use Rattle.std.proofs.Common.{◌≡◌, ◌≤◌, ◌<◌, ◌+◌, ◌*◌, ◌/◌, ◌||◌, ◌&&◌, ◌∙◌, ◌^◌, ℕ, ℤ, suc, nat_eq, nat_le, nat_lt, max, not, cond, Bool, true, false, [], ◌∷◌, length, Option, Some, None, if◌then◌else◌, refl, sym, ap, subst, arith, w64, FitsSigned, to_z, of_z, All}
+use Rattle.std.proofs.Common.{◌≡◌, ◌≤◌, ◌<◌, ◌+◌, ◌*◌, ◌/◌, ◌||◌, ◌&&◌, ◌∙◌, ◌^◌, ℕ, ℤ, suc, nat_eq, nat_le, nat_lt, max, not, cond, Bool, true, false, [], ◌∷◌, Option, Some, None, if◌then◌else◌, refl, sym, ap, subst, arith, w64, FitsSigned, to_z, of_z, All}
 use Rattle.std.specs.Prelude.{unwrap_or, IsSome, IsTrue, ◌↔◌}
 use Rattle.std.specs.Option.{option_or}
-use Rattle.std.specs.BTreeSet.{BTreeSet, contains, Updates}
-use Rattle.std.specs.Ordering.{int_cmp, int_eq, nat_cmp}
+use Rattle.std.specs.BTreeSet.{BTreeSet, contains}
+use Rattle.std.specs.Ordering.{int_eq, nat_cmp}
 use Rattle.std.proofs.lemmas.Bool.{eqb-true}
 use Rattle.std.proofs.lemmas.Int.{to_z-of_z}
 use Rattle.std.proofs.lemmas.List.Elements.{All-cons}
@@ -21,7 +21,7 @@ use Rattle.tt_value.specs.declared.value.Value.TheVariants.{Int}
 use Rattle.tt_record.specs.Entries.{IsEntry, length_of}
 use Rattle.tt_record.specs.Places.{place_of}
 use Rattle.tt_log.specs.declared.log.Log.{Log}
-use Rattle.tt_log.specs.Walk.{Files}
+use Rattle.tt_model.specs.Entries.{is_switch}
 use Rattle.tt_log.specs.Logs.{write_of}
 use Rattle.tt_model.specs.Live.{touched, with_number}
 use Rattle.tt_model.specs.Laws.{NextIsFresh, SeenRowsMayChange}
@@ -33,28 +33,19 @@ use Rattle.tt_model.specs.Found.{Found}
 use Rattle.tt_model.specs.Committed.{Cells, changed_by, committed, is_full, put}
 use Rattle.tt_set.specs.declared.settings.Settings.{Settings}
 use Rattle.tt_value.specs.declared.refusal.Refusal.{Refusal}
-use Rattle.tt_recover.specs.Numbers.{AreNumberedFrom}
-use Rattle.tt_engine.specs.declared.engine.Engine.{Engine}
+use Rattle.tt_model.specs.StepLaws.{AreNumberedFrom}
+use Rattle.tt_engine.specs.declared.memory.Memory.{Memory}
 use Rattle.tt_engine.specs.declared.rows.Rows.{Rows}
 use Rattle.tt_engine.specs.declared.request.Request.TheVariants.{Insert}
 use Rattle.tt_engine.specs.Requests.{answer, insert_edit, kv, own_number, row_of, sees_key}
-use Rattle.tt_engine.specs.Engines.{FillsPlaces, HoldRows, IsAlone, IsInsert, Stands, places_end}
+use Rattle.tt_engine.specs.Founds.{Takes}
+use Rattle.tt_engine.specs.Engines.{FillsPlaces, HoldRows, IsAlone, IsInsert, InMemory, places_end}
 use Rattle.tt_engine.specs.Laws.{Laws}
 use Rattle.tt_recover.specs.Opening.{found_by}
-use Rattle.tt_engine.specs.LogTrail.{HasTrail, IsQuiet, LeavesPrefix}
-use Rattle.tt_engine.specs.PrefixLaws.{prefix_opens}
-use Rattle.tt_engine.specs.Prefixes.{IsBehindFound, LeavesOpening}
+use Rattle.tt_journal.specs.LogTrail.{HasEnds}
+use Rattle.tt_model.specs.Works.{SameLog, performed}
 use Rattle.tt_engine.proofs.InsertLemmas.{Fills, filled, filled_sees, filled_used, fresh_found, fresh_touched, next_least, live_behind, live_one, new_touched, new_unused, self_eq}
 use Rattle.tt_engine.proofs.PlaceLemmas.{least_free_is}
-use Rattle.tt_engine.proofs.TrailLemmas.{Outcomes}
-
--- how the rows change where a row takes the free place
-pub record Takes (old new : Rows) (key : ℤ) : Type 0 where
-  pub keys : Updates int_cmp old.keys new.keys key true
-  pub place : old.free < new.free
-  pub before : (q : ℕ) → old.free < q → q < new.free → contains nat_cmp old.used q ≡ true
-  pub free : new.free < places_end → contains nat_cmp old.used new.free ≡ false
-  pub used : new.used ≡ old.used
 
 key_added : (c b : Bool) → cond c true b ≡ (b || c)
 key_added true true = refl
@@ -172,10 +163,6 @@ filled_next : (t p : ℕ) (key value : ℤ) (s : State) → NextIsFresh → next
 unfolding filled
 filled_next t p key value s law = law.change t p Empty (Full kv (row_of key value)) s
 
-filled_trail : (log : Log) (now : Files) (t p : ℕ) (key value : ℤ) (s : State) → HasTrail log now (with_entry (Change t p Empty (Full kv (row_of key value))) s) → HasTrail log now (filled t p key value s)
-unfolding filled
-filled_trail log now t p key value s h = record { first = h.first; entries = h.entries; forced = h.forced; bounds = h.bounds; write = h.write; force = h.force; files = h.files; sizes = h.sizes }
-
 filled_origin : (t p : ℕ) (key value : ℤ) (s : State) → scan_held (filled t p key value s) 0 ≡ scan_held s 0
 unfolding filled with_entry
 filled_origin t p key value s = refl
@@ -186,8 +173,8 @@ filled_kept t p key value s = (refl, refl, refl)
 
 -- ---- the engine
 
-pub fills : (e : Engine) (now : Files) (s : State) (t : ℕ) → Laws → Stands e now s → t ≡ unwrap_or e.own e.next → e.rows.free < places_end → Fills e.own t e.rows.free s
-fills e now s t laws h is inside = record {
+pub fills : (e : Memory) (s : State) (t : ℕ) → Laws → InMemory e s → t ≡ unwrap_or e.own e.next → e.rows.free < places_end → Fills e.own t e.rows.free s
+fills e s t laws h is inside = record {
   fresh = laws.fresh;
   places = laws.places;
   alone = h.alone;
@@ -197,22 +184,21 @@ fills e now s t laws h is inside = record {
 }
 
 -- how the engine changes
-pub record Changes (e e' : Engine) (t : ℕ) : Type 0 where
+pub record Changes (e e' : Memory) (t : ℕ) : Type 0 where
   pub own : e'.own ≡ Some t
   pub next : e'.next ≡ max e.next (t + 1)
   pub wish : e'.wish ≡ e.wish
   pub durable : e'.durable_commits ≡ e.durable_commits
 
-pub stands_filled : (e e' : Engine) (now now' : Files) (s : State) (t : ℕ) (key value : ℤ) → Laws → Stands e now s → t ≡ unwrap_or e.own e.next → e.rows.free < places_end
-    → Takes e.rows e'.rows key → Changes e e' t → HasTrail e'.log now' (with_entry (Change t e.rows.free Empty (Full kv (row_of key value))) s) → Stands e' now' (filled t e.rows.free key value s)
-stands_filled e e' now now' s t key value laws h is inside takes c log =
-    let f = fills e now s t laws h is inside in
+pub stands_filled : (e e' : Memory) (s : State) (t : ℕ) (key value : ℤ) → Laws → InMemory e s → t ≡ unwrap_or e.own e.next → e.rows.free < places_end
+    → Takes e.rows e'.rows key → Changes e e' t → InMemory e' (filled t e.rows.free key value s)
+stands_filled e e' s t key value laws h is inside takes c =
+    let f = fills e s t laws h is inside in
     let kept = filled_kept t e.rows.free key value s in
     let next = filled_next t e.rows.free key value s laws.fresh in
     let old_next = h.next in
     let new_next = c.next in
     record {
-      log = filled_trail e'.log now' t e.rows.free key value s log;
       grown = subst (λ (cells : Cells). IsGrown cells ((filled t e.rows.free key value s).entries)) (ap (λ (f : Found). f.cells) (sym kept.0)) (filled_grown e.own t e.rows.free key value s laws.seen f h.grown);
       below = filled_below e.own t e.rows.free key value s f;
       opened = filled_opened t e.rows.free key value s h.opened;
@@ -245,8 +231,8 @@ change_length : (t p : ℕ) (b a : Cell) → length_of (Change t p b a) ≡ leng
 unfolding big_endian
 change_length t p b a = refl
 
-number_there : (e : Engine) (now : Files) (s : State) (t : ℕ) → Stands e now s → t ≡ unwrap_or e.own e.next → t < 2 ^ 48 → no_number_for (s.own 1) s ≡ None
-number_there e now s t h is small = ap (λ o. no_number_for o s) (h.alone.sessions 1) ∙ by e.own is
+number_there : (e : Memory) (s : State) (t : ℕ) → InMemory e s → t ≡ unwrap_or e.own e.next → t < 2 ^ 48 → no_number_for (s.own 1) s ≡ None
+number_there e s t h is small = ap (λ o. no_number_for o s) (h.alone.sessions 1) ∙ by e.own is
   where
     none : (n : ℕ) → n < 2 ^ 48 → nat_le (2 ^ 48) n ≡ false
     none n low = grind (arith, low)
@@ -255,8 +241,8 @@ number_there e now s t h is small = ap (λ o. no_number_for o s) (h.alone.sessio
     by (Some u) is = refl
     by None is = let same = h.next in ap (λ b. refused_if b LogOut) (none (next s) (omega (arith, is, same, small)))
 
-number_is : (e : Engine) (now : Files) (s : State) (t : ℕ) → Stands e now s → t ≡ unwrap_or e.own e.next → number_for (s.own 1) s ≡ t
-number_is e now s t h is = ap (λ o. number_for o s) (h.alone.sessions 1) ∙ by e.own is
+number_is : (e : Memory) (s : State) (t : ℕ) → InMemory e s → t ≡ unwrap_or e.own e.next → number_for (s.own 1) s ≡ t
+number_is e s t h is = ap (λ o. number_for o s) (h.alone.sessions 1) ∙ by e.own is
   where
     by : (own : Option ℕ) → t ≡ unwrap_or own e.next → number_for own s ≡ t
     by (Some u) is = sym is
@@ -267,40 +253,33 @@ place_test s n None is = ap (λ o. refused_if (not (elim o [ None ↦ false | So
 place_test s n (Some at) is = ap (λ o. refused_if (not (elim o [ None ↦ false | Some at ↦ true ])) LogOut) is
 
 -- the same place, as the log and as the state have it
-pub same_place : (log : Log) (now : Files) (s : State) (e : Entry) (n : ℕ) → HasTrail log now s → length_of e ≡ n → place_of (write_of log) (length_of e) log.file_size ≡ place_of (write_position s) n s.settings.log_file_size
-same_place log now s e n h long =
-    ap (λ p. place_of p (length_of e) log.file_size) h.write ∙ ap (λ k. place_of (write_position s) k log.file_size) long ∙ ap (λ k. place_of (write_position s) n k) h.sizes.0
+pub same_place : (log : Log) (s : State) (e : Entry) (n : ℕ) → HasEnds log s → length_of e ≡ n → place_of (write_of log) (length_of e) log.file_size ≡ place_of (write_position s) n s.settings.log_file_size
+same_place log s e n h long =
+    ap (λ p. place_of p (length_of e) log.file_size) h.write ∙ ap (λ k. place_of (write_position s) k log.file_size) long ∙ ap (λ k. place_of (write_position s) n k) h.size
 
-pub log_out : (e : Engine) (now : Files) (s : State) (t : ℕ) (key value : ℤ) (entry : Entry) → Stands e now s → t ≡ unwrap_or e.own e.next → t < 2 ^ 48 → IsInsert s e t key value entry
-    → place_of (write_of e.log) (length_of entry) e.log.file_size ≡ None → answer (Insert key value) s ≡ (Refused LogOut, s)
-log_out e now s t key value entry h is small i none =
+pub log_out : (log : Log) (e : Memory) (s : State) (t : ℕ) (key value : ℤ) (entry : Entry) → HasEnds log s → InMemory e s → t ≡ unwrap_or e.own e.next → t < 2 ^ 48 → IsInsert s e t key value entry
+    → place_of (write_of log) (length_of entry) log.file_size ≡ None → answer (Insert key value) s ≡ (Refused LogOut, s)
+log_out log e s t key value entry ends h is small i none =
     let long : length_of entry ≡ edit_length (insert_edit key value) = ap length_of i.is ∙ change_length t e.rows.free Empty (Full kv (row_of key value)) in
-    let place = place_test s (edit_length (insert_edit key value)) None (sym (same_place e.log now s entry (edit_length (insert_edit key value)) h.log long) ∙ none) in
+    let place = place_test s (edit_length (insert_edit key value)) None (sym (same_place log s entry (edit_length (insert_edit key value)) ends long) ∙ none) in
     ap (λ b. if b then refused DuplicateKey s else made 1 (insert_edit key value ∷ []) s) i.fresh
-    ∙ ap (λ o. unless_refused (option_or o (no_place (edit_length (insert_edit key value) ∷ []) s)) (Changed 1, made_in 1 (number_for (s.own 1) s) (insert_edit key value ∷ []) s) s) (number_there e now s t h is small)
+    ∙ ap (λ o. unless_refused (option_or o (no_place (edit_length (insert_edit key value) ∷ []) s)) (Changed 1, made_in 1 (number_for (s.own 1) s) (insert_edit key value ∷ []) s) s) (number_there e s t h is small)
     ∙ ap (λ o. unless_refused o (Changed 1, made_in 1 (number_for (s.own 1) s) (insert_edit key value ∷ []) s) s) place
 
-pub inserted : (e : Engine) (now : Files) (s : State) (t : ℕ) (key value : ℤ) (entry : Entry) → Laws → Stands e now s → t ≡ unwrap_or e.own e.next → t < 2 ^ 48 → e.rows.free < places_end → IsInsert s e t key value entry
-    → IsSome (place_of (write_of e.log) (length_of entry) e.log.file_size) → answer (Insert key value) s ≡ (Changed 1, filled t e.rows.free key value s)
-inserted e now s t key value entry laws h is small inside i some =
+pub inserted : (log : Log) (e : Memory) (s : State) (t : ℕ) (key value : ℤ) (entry : Entry) → Laws → HasEnds log s → InMemory e s → t ≡ unwrap_or e.own e.next → t < 2 ^ 48 → e.rows.free < places_end → IsInsert s e t key value entry
+    → IsSome (place_of (write_of log) (length_of entry) log.file_size) → answer (Insert key value) s ≡ (Changed 1, filled t e.rows.free key value s)
+inserted log e s t key value entry laws ends h is small inside i some =
     let long : length_of entry ≡ edit_length (insert_edit key value) = ap length_of i.is ∙ change_length t e.rows.free Empty (Full kv (row_of key value)) in
-    let f = fills e now s t laws h is inside in
+    let f = fills e s t laws h is inside in
     ap (λ b. if b then refused DuplicateKey s else made 1 (insert_edit key value ∷ []) s) i.fresh
-    ∙ made_filled s t e.rows.free key value (number_there e now s t h is small)
-    (there (place_of (write_of e.log) (length_of entry) e.log.file_size) some (sym (same_place e.log now s entry (edit_length (insert_edit key value)) h.log long)))
-    (number_is e now s t h is)
+    ∙ made_filled s t e.rows.free key value (number_there e s t h is small)
+    (there (place_of (write_of log) (length_of entry) log.file_size) some (sym (same_place log s entry (edit_length (insert_edit key value)) ends long)))
+    (number_is e s t h is)
     (least_free_is (is_used s) (32 * s.pages) e.rows.free h.below h.rows.below (h.rows.free inside))
   where
     there : (o : Option Position) → IsSome o → place_of (write_position s) (edit_length (insert_edit key value)) s.settings.log_file_size ≡ o → no_place (edit_length (insert_edit key value) ∷ []) s ≡ None
     there (Some at) is same = place_test s (edit_length (insert_edit key value)) (Some at) same
     there None is same = cc
-
--- a crash in the Change
-pub filled_prefix : (least t p : ℕ) (key value : ℤ) (s : State) (may : Outcomes) → LeavesPrefix least (with_entry (Change t p Empty (Full kv (row_of key value))) s) may → LeavesPrefix least (filled t p key value s) may
-unfolding filled
-filled_prefix least t p key value s may leaves files left =
-    let found = leaves files left in
-    (found.0, found.1, record { most = found.2.most; found = found.2.found; is = found.2.is; entries = found.2.entries; end = found.2.end })
 
 -- what the test of a place says
 pub none_there : (b : Bool) (o : Option Position) → (IsTrue b ↔ IsSome o) → b ≡ false → o ≡ None
@@ -331,8 +310,8 @@ number_none None next is = (refl, by (nat_lt next (2 ^ 48)) refl is)
 pub duplicate : (key value : ℤ) (s : State) → sees_key key s ≡ true → answer (Insert key value) s ≡ (Refused DuplicateKey, s)
 duplicate key value s is = ap (λ b. if b then refused DuplicateKey s else made 1 (insert_edit key value ∷ []) s) is
 
-pub numbers_out : (e : Engine) (now : Files) (key value : ℤ) (s : State) → Stands e now s → sees_key key s ≡ false → None ≡ own_number e.own e.next → answer (Insert key value) s ≡ (Refused LogOut, s)
-numbers_out e now key value s h fresh is =
+pub numbers_out : (e : Memory) (key value : ℤ) (s : State) → InMemory e s → sees_key key s ≡ false → None ≡ own_number e.own e.next → answer (Insert key value) s ≡ (Refused LogOut, s)
+numbers_out e key value s h fresh is =
     let none = number_none e.own e.next is in
     let high : nat_le (2 ^ 48) (next s) ≡ true = ap (λ n. nat_le (2 ^ 48) n) (sym h.next) ∙ none.1 in
     let out : no_number_for (s.own 1) s ≡ Some LogOut = ap (λ o. no_number_for o s) (h.alone.sessions 1 ∙ none.0) ∙ ap (λ b. refused_if b LogOut) high in
@@ -362,20 +341,19 @@ read_back t p q key value e is same first second =
     is ∙ ap (λ k. Change t p Empty (Full kv (row_of k (to_z w64 (of_z w64 value))))) (to_z-of_z w64 key first)
     ∙ ap (λ v. Change t p Empty (Full kv (row_of key v))) (to_z-of_z w64 value second) ∙ ap (λ r. Change t r Empty (Full kv (row_of key value))) same
 
--- so opening finds it
-pub filled_opens : (e : Engine) (now : Files) (t : ℕ) (key value : ℤ) (s : State) (may : Outcomes) → Laws → Stands e now s → t ≡ unwrap_or e.own e.next → e.rows.free < places_end
-    → LeavesPrefix s.forced (filled t e.rows.free key value s) may → LeavesOpening s.forced (filled t e.rows.free key value s) may
-filled_opens e now t key value s may laws h is inside leaves =
-    let f = fills e now s t laws h is inside in
-    let after = filled t e.rows.free key value s in
-    let found = filled_found t e.rows.free key value s in
-    let b : IsBehindFound after = record {
-      found = filled_opened t e.rows.free key value s h.opened;
-      grown = subst (λ (g : Found). IsGrown g.cells after.entries) (sym found) (filled_grown e.own t e.rows.free key value s laws.seen f h.grown);
-      numbered = subst (λ (g : Found). AreNumberedFrom g.next after.entries) (sym found) (filled_numbered s.found.next t e.rows.free key value s (own_least e.own t s laws.fresh f.number h.filled) h.numbered);
-    } in
-    prefix_opens laws.opening s.forced after may b (subst (λ (g : Found). length g.entries ≤ s.forced) (sym found) h.log.bounds.0) leaves
-
-pub filled_quiet : (t p : ℕ) (key value : ℤ) (s : State) → IsQuiet s (filled t p key value s) → IsQuiet s (with_entry (Change t p Empty (Full kv (row_of key value))) s)
+-- the log of the state behind an insert
+pub filled_same : (t p : ℕ) (key value : ℤ) (s : State) → SameLog (filled t p key value s) (performed (record { entries = Change t p Empty (Full kv (row_of key value)) ∷ []; force = false }) s)
 unfolding filled
-filled_quiet t p key value s q = record { forced = q.forced; file = q.file }
+filled_same t p key value s = record { settings = refl; found = refl; entries = refl; forced = refl; pages = refl; files = refl }
+
+pub plain_change : (t p : ℕ) (key value : ℤ) (e : Entry) → e ≡ Change t p Empty (Full kv (row_of key value)) → is_switch e ≡ false
+plain_change t p key value e is = ap is_switch is
+
+-- the number of a change is that of the session's transaction, or the next one
+pub own_is : (own : Option ℕ) (next t : ℕ) → own_number own next ≡ Some t → t ≡ unwrap_or own next
+own_is (Some u) next t is = cc
+own_is None next t is = by (nat_lt next (2 ^ 48)) is
+  where
+    by : (b : Bool) → (if b then Some next else None) ≡ Some t → t ≡ next
+    by true is = cc
+    by false is = cc

@@ -1,8 +1,9 @@
 pub mod ChangeLemmas
 pub mod CommitLemmas
+pub mod DecidedLemmas
 pub mod FoundLemmas
 pub mod InsertLemmas
 pub mod OnwardLemmas
 pub mod PlaceLemmas
 pub mod StartLemmas
-pub mod TrailLemmas
+pub mod StartedLemmas

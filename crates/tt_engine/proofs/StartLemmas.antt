@@ -25,12 +25,13 @@ use Rattle.tt_recover.specs.Opening.{found_by, newest_first, opening}
 use Rattle.tt_recover.specs.Recoveries.{IsRecovered}
 use Rattle.tt_recover.specs.Replays.{AreInOrder, cell_shown}
 use Rattle.tt_engine.specs.declared.engine.Engine.{Engine}
+use Rattle.tt_engine.specs.declared.memory.Memory.{Memory}
 use Rattle.tt_engine.specs.declared.rows.Rows.{Rows}
-use Rattle.tt_recover.specs.Numbers.{AreNumberedFrom}
+use Rattle.tt_model.specs.StepLaws.{AreNumberedFrom}
 use Rattle.tt_model.specs.Steady.{IsGrown}
 use Rattle.tt_engine.specs.Engines.{FillsPlaces, HoldRows, IsAlone, Stands}
 use Rattle.tt_engine.specs.Founds.{HaveFound, has_found_key, has_place}
-use Rattle.tt_engine.specs.LogTrail.{HasTrail, LeavesPrefix}
+use Rattle.tt_journal.specs.LogTrail.{HasTrail, LeavesPrefix}
 use Rattle.tt_engine.specs.Overs.{IsOver}
 use Rattle.tt_engine.specs.PrefixLaws.{number_again, prefix_opens, since_origin}
 use Rattle.tt_engine.specs.Prefixes.{IsBehindFound, LeavesOpening}
@@ -50,7 +51,7 @@ use Rattle.tt_engine.specs.OpeningLaws.{found_is, read_is, same_ok}
 use Rattle.tt_engine.proofs.PlaceLemmas.{any_here, any_found, any_row, in_cell, same_test}
 use Rattle.tt_engine.proofs.CommitLemmas.{none_filled}
 use Rattle.tt_engine.proofs.FoundLemmas.{found_key, full_below, shown_full, shown_key}
-use Rattle.tt_engine.proofs.TrailLemmas.{Outcomes, left_forced, oldest_all, oldest_more}
+use Rattle.tt_journal.proofs.TrailLemmas.{Outcomes, left_forced, oldest_all, oldest_more}
 
 -- ---- the state before the Mark, and behind it
 
@@ -170,7 +171,7 @@ unfolding begun with_entry
 begun_origin settings files es end = refl
 
 pub stands_begun : (e : Engine) (settings : Settings) (old now : Files) (es : Trail) (end : Position) (found : List FoundRow) → HasTrail e.log now (with_entry Mark (before_mark settings old es end))
-    → e.durable_commits ≡ settings.durable_commits → e.next ≡ next_number 1 es → e.own ≡ None → e.wish ≡ false → HaveFound e.rows found → AreInOrder found
+    → e.memory.durable_commits ≡ settings.durable_commits → e.memory.next ≡ next_number 1 es → e.memory.own ≡ None → e.memory.wish ≡ false → HaveFound e.memory.rows found → AreInOrder found
     → ((q : ℕ) → cell_shown found q ≡ standing no_cells es q) → Stands e now (begun_over settings old (found_by es end))
 unfolding begun
 stands_begun e settings old now es end found log durable number own wish have order cells =
@@ -178,17 +179,19 @@ stands_begun e settings old now es end found log durable number own wish have or
     let grown = begun_grown settings old es end in
     record {
       log = log;
-      grown = grown.0;
-      numbered = grown.1;
-      opened = begun_opened settings old es end;
-      origin = begun_origin settings old es end;
-      below = λ q is. let low = full_below es q (sym (begun_used settings old es end q) ∙ is) in let pages = begun_pages settings old es end in omega (arith, low, pages);
-      alone = subst (λ o. IsAlone o s) (sym own) (begun_alone settings old es end);
-      filled = subst (λ o. FillsPlaces o s) (sym own) (none_filled s);
-      next = number ∙ sym (begun_next settings old es end);
-      wish = wish ∙ sym (begun_wish settings old es end);
-      durable = durable ∙ sym (begun_settings settings old es end);
-      rows = begun_rows settings old es end e.rows found have order cells;
+      memory = record {
+        grown = grown.0;
+        numbered = grown.1;
+        opened = begun_opened settings old es end;
+        origin = begun_origin settings old es end;
+        below = λ q is. let low = full_below es q (sym (begun_used settings old es end q) ∙ is) in let pages = begun_pages settings old es end in omega (arith, low, pages);
+        alone = subst (λ o. IsAlone o s) (sym own) (begun_alone settings old es end);
+        filled = subst (λ o. FillsPlaces o s) (sym own) (none_filled s);
+        next = number ∙ sym (begun_next settings old es end);
+        wish = wish ∙ sym (begun_wish settings old es end);
+        durable = durable ∙ sym (begun_settings settings old es end);
+        rows = begun_rows settings old es end e.memory.rows found have order cells;
+      };
     }
 
 -- ---- what a crash leaves before and in the Mark
@@ -261,9 +264,9 @@ mark_ready settings old mid r e ready found is =
     (opened_trail r settings old mid (entries_of_log r mid) (write_of r.log) refl refl ready.recovered.none ready.first ready.force ready.sizes.0 ready.sizes.1 ready.reads))
 
 pub mark_stands : (settings : Settings) (old mid now : Files) (r : Recovered) (e e' : Engine) → IsReady settings old mid r e → AreInOrder r.rows.items → (found : Found) → opening old ≡ Ok found
-    → HasTrail e'.log now (with_entry Mark (opened settings found (are_there old) no_sets)) → e'.durable_commits ≡ e.durable_commits → e'.next ≡ e.next → e'.own ≡ e.own → e'.wish ≡ e.wish → e'.rows ≡ e.rows
+    → HasTrail e'.log now (with_entry Mark (opened settings found (are_there old) no_sets)) → e'.memory ≡ e.memory
     → Stands e' now (begun_over settings old found)
-mark_stands settings old mid now r e e' ready order found is log durable number own wish rows =
+mark_stands settings old mid now r e e' ready order found is log same =
     let got = ready.recovered in
     let es = entries_of_log r mid in
     let made = made_of settings old mid r e ready found is in
@@ -272,8 +275,8 @@ mark_stands settings old mid now r e e' ready order found is log durable number 
     subst (λ (f : Found). Stands e' now (begun_over settings old f)) made
     (stands_begun e' settings old now es (write_of r.log) r.rows.items
     (subst (λ (f : Found). HasTrail e'.log now (with_entry Mark (opened settings f (are_there old) no_sets))) (sym made) log)
-    (durable ∙ o.durable) (number ∙ o.next ∙ got.next ∙ ap (λ (f : Found). f.next) got_is ∙ sym (ap (λ (f : Found). f.next) made)) (own ∙ o.own) (wish ∙ o.wish)
-    (subst (λ (w : Rows). HaveFound w r.rows.items) (sym rows) o.rows) order
+    (ap (λ (m : Memory). m.durable_commits) same ∙ o.durable) (ap (λ (m : Memory). m.next) same ∙ o.next ∙ got.next ∙ ap (λ (f : Found). f.next) got_is ∙ sym (ap (λ (f : Found). f.next) made)) (ap (λ (m : Memory). m.own) same ∙ o.own) (ap (λ (m : Memory). m.wish) same ∙ o.wish)
+    (subst (λ (w : Rows). HaveFound w r.rows.items) (sym (ap (λ (m : Memory). m.rows) same)) o.rows) order
     (λ q. got.cells q ∙ ap (λ (f : Found). f.cells q) got_is ∙ sym (ap (λ (f : Found). f.cells q) made)))
 
 -- ---- what a crash leaves

@@ -1,12 +1,10 @@
 -- States of a run, one behind another.
-use Rattle.std.proofs.Common.{length, refl, ap, arith}
+use Rattle.std.proofs.Common.{length, ap, arith}
 use Rattle.tt_model.specs.Found.{Found}
 use Rattle.tt_model.specs.State.{State}
-use Rattle.tt_engine.specs.LogTrail.{IsQuiet}
-use Rattle.tt_engine.specs.Prefixes.{IsOnward, IsSinceOpening, IsStill}
-
-pub same_onward : (s : State) → IsOnward s s
-same_onward s = record { found = refl; forced = omega arith; file = omega arith }
+use Rattle.tt_journal.specs.LogTrail.{IsQuiet}
+use Rattle.tt_engine.specs.Prefixes.{IsSinceOpening, IsStill}
+use Rattle.tt_journal.specs.Onward.{IsOnward}
 
 -- A later state is behind the opening, too.
 pub since_onward : (s after : State) → IsSinceOpening s → IsOnward s after → IsSinceOpening after

@@ -17,9 +17,9 @@ use Rattle.tt_model.specs.State.{State, bound, trail}
 use Rattle.tt_model.specs.Steady.{IsGrown}
 use Rattle.tt_model.specs.Laws.{OpeningFindsCommitted}
 use Rattle.tt_recover.specs.Laws.{next_again, oldest_opens_again}
-use Rattle.tt_recover.specs.Numbers.{AreNumberedFrom}
+use Rattle.tt_model.specs.StepLaws.{AreNumberedFrom}
 use Rattle.tt_recover.specs.Opening.{found_by, found_in, newest_first, opening}
-use Rattle.tt_engine.specs.LogTrail.{FindsFirst, LeavesPrefix}
+use Rattle.tt_journal.specs.LogTrail.{FindsFirst, LeavesPrefix}
 use Rattle.tt_engine.specs.Prefixes.{IsBehindFound, LeavesOpening}
 
 -- the first entries are all that were found, and the first new ones

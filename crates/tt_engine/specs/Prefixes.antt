@@ -8,7 +8,7 @@ use Rattle.tt_model.specs.Found.{Found}
 use Rattle.tt_model.specs.Prefix.{IsSettled, StandsForFirst, StandsForPrefix}
 use Rattle.tt_model.specs.State.{State, write_position}
 use Rattle.tt_model.specs.Steady.{IsGrown}
-use Rattle.tt_recover.specs.Numbers.{AreNumberedFrom}
+use Rattle.tt_model.specs.StepLaws.{AreNumberedFrom}
 use Rattle.tt_recover.specs.Opening.{found_by, opening}
 
 -- What was found is what a log stood for, and the new entries might come one after another over it, by transactions of their own.
@@ -42,12 +42,6 @@ opens files = or_none (opening files)
 -- opening finds the same in every map of files that a crash may leave as in the present one
 abbrev pub LogsAreSettled : Files → (Name → Option (List ℕ) → Type 0) → Type 0
 LogsAreSettled now may = IsSettled opens (MayLeave may) now
-
--- A later state of a run: what opening found is the same, the forced part didn't fall, and the end didn't go back.
-pub record IsOnward (s after : State) : Type 0 where
-  pub found : after.found ≡ s.found
-  pub forced : s.forced ≤ after.forced
-  pub file : (write_position s).file ≤ (write_position after).file
 
 -- a state behind the one that opening found
 pub record IsSinceOpening (s : State) : Type 0 where

@@ -13,7 +13,8 @@ use Rattle.tt_model.specs.Committed.{Cells, is_full, committed, changed_by}
 use Rattle.tt_model.specs.Live.{is_live, touched, numbers_from}
 use Rattle.tt_model.specs.Holders.{value_at, has_held, is_held_by}
 use Rattle.tt_model.specs.Tables.{PlacedRow, row_in, row_at, rows_of, text_at}
-use Rattle.tt_model.specs.State.{State, CellEdit, trail, next, cells_of, bound, place_for, with_entry, with_edit, with_edits, all_forced}
+use Rattle.tt_model.specs.State.{State, trail, next, cells_of, bound, place_for, with_entry, with_edit, with_edits, all_forced}
+use Rattle.tt_model.specs.declared.definition.CellEdit.{CellEdit}
 use Rattle.tt_model.specs.Steady.{IsSteady, MayChange}
 use Rattle.tt_model.specs.Sound.{whole_table, IsSound, MayWrite, MayEdit}
 use Rattle.tt_model.specs.System.{system_rows, bookmark}

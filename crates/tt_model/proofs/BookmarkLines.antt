@@ -23,13 +23,14 @@ use Rattle.tt_model.specs.Holders.{value_at}
 use Rattle.tt_model.specs.Found.{Found}
 use Rattle.tt_model.specs.Sets.{Sound, SetStanding}
 use Rattle.tt_model.specs.Tables.{Table, Index, PlacedRow, by_number, by_text, with_number_at, with_text_at, text_at, table_named, index_named}
-use Rattle.tt_model.specs.State.{State, CellEdit, Reader, Begun, live_in, next, cells_of, catalog, write_position, with_entry, with_edits, all_forced, reversals}
+use Rattle.tt_model.specs.State.{State, Reader, Begun, live_in, next, cells_of, catalog, write_position, with_entry, with_edits, all_forced, reversals}
+use Rattle.tt_model.specs.declared.definition.CellEdit.{CellEdit}
 use Rattle.tt_model.specs.Meaning.{Meant, Makes, Refuses, Gives, unless, first_of}
-use Rattle.tt_model.specs.System.{system_rows, in_transaction, deletes, bookmark, reader_on, reads, subscription, delete_bookmark, unsubscribe, acknowledged, acknowledge, drop_table, drop_index, meant_by_delete_bookmark, meant_by_unsubscribe, meant_by_acknowledge, meant_by_drop_table, meant_by_drop_index}
+use Rattle.tt_model.specs.System.{system_rows, in_transaction, deletes, bookmark, reader_on, reads, subscription, delete_bookmark, unsubscribe, acknowledge, acknowledge_in, bookmark_values, rewrites, drop_table, drop_index, meant_by_delete_bookmark, meant_by_unsubscribe, meant_by_acknowledge, meant_by_drop_table, meant_by_drop_index}
 use Rattle.tt_model.specs.Backups.{kind_done, row_of_set, set_edit, full_now, extended_now, with_set, backup_refusal}
-use Rattle.tt_model.specs.Sound.{IsSound, MayEdit, HasItsBookmark}
+use Rattle.tt_model.specs.Sound.{IsSound, MayEdit}
 use Rattle.tt_model.specs.Checkpoint.{begin_checkpoint, copied, with_copies, with_all_copies, complete_where_due, completed, with_completion}
-use Rattle.tt_model.specs.Step.{Step, Answers, WantsMemory, line, unless_refused, forced_where, statement, made, made_in, number_for, no_number_for, no_place, no_system_place, edit_length, settled, is_durable, commit_of, rollback_of, rolled_back, rollback_lengths, end_length, system, system_done, open_at, given, closed, refused, kept_place, next_place_of, with_reader, backed_up, backup_place, backup_kind, checkpoint_open, no_checkpoint_number, least_open, begun_reply, completion_after}
+use Rattle.tt_model.specs.Step.{Step, Answers, WantsMemory, line, unless_refused, forced_where, statement, made, made_in, number_for, no_number_for, no_place, no_system_place, edit_length, settled, is_durable, commit_of, rollback_of, rolled_back, rollback_lengths, end_length, system, system_done, open_at, given, closed, refused, kept_place, next_place_of, with_reader, backed_up, backup_place, backup_kind, checkpoint_open, no_checkpoint_number, least_open, begun_reply, completion_after, no_skip, given_to}
 use Rattle.tt_model.specs.Run.{Line, Run, begun}
 use Rattle.tt_model.specs.WholeRuns.{IsSession, AreOfSessions, ReadersHaveBookmarks, BookmarksStay}
 use Rattle.tt_model.proofs.AppendLemmas.{cells-Abort}
@@ -88,21 +89,22 @@ unsubscribe_keep name session s other None edits h = absurd (refuses_none _ _ ed
 unsubscribe_keep name session s other (Some t) edits h = keep_or_refused name _ (map (deletes 5) (subscription other t.id s)) edits (deletes-keep name 5 (subscription other t.id s) refl) h
 
 -- An acknowledgement writes the row of its bookmark anew.
-acknowledged_keep : (name : List ℕ) (s : State) (r : Reader) (o : Option PlacedRow) → bookmark r.bookmark s ≡ o → AllKeep name (acknowledged o r)
-acknowledged_keep name s r None e = tt
-acknowledged_keep name s r (Some at) e =
-    let own : bytes_eq (text_at 0 at) r.bookmark ≡ true = find-passes (is_named r.bookmark) (system_rows 4 s) at e in (
+acknowledged_keep : (name : List ℕ) (session : ℕ) (s : State) (r : Reader) (o : Option PlacedRow) (edits : List CellEdit) → bookmark r.bookmark s ≡ o →
+    acknowledge_in session s r o ≡ Makes edits → AllKeep name edits
+acknowledged_keep name session s r None edits e h = absurd (refuses_none _ _ edits h)
+acknowledged_keep name session s r (Some at) edits e h =
+    let own : bytes_eq (text_at 0 at) r.bookmark ≡ true = find-passes (is_named r.bookmark) (system_rows 4 s) at e in
+    keep_or_refused name (in_transaction session s) (rewrites 4 at (bookmark_values r.bookmark r.place) ∷ []) edits (
       (λ y.
           let named : bytes_eq (text_at 0 at) name ≡ true = (and_parts true (bytes_eq (text_at 0 at) name) y).1 in
           let same : r.bookmark ≡ name = sym ((bytes_eq-Decides (text_at 0 at) r.bookmark).0 own) ∙ (bytes_eq-Decides (text_at 0 at) name).0 named in
           (bytes_eq-Decides r.bookmark name).1 same),
       tt,
-    )
+    ) h
 
 acknowledge_keep : (name : List ℕ) (session : ℕ) (s : State) (o : Option Reader) (edits : List CellEdit) → acknowledge session s o ≡ Makes edits → AllKeep name edits
 acknowledge_keep name session s None edits h = absurd (refuses_none _ _ edits h)
-acknowledge_keep name session s (Some r) edits h =
-    keep_or_refused name (in_transaction session s) (acknowledged (bookmark r.bookmark s) r) edits (acknowledged_keep name s r (bookmark r.bookmark s) refl) h
+acknowledge_keep name session s (Some r) edits h = acknowledged_keep name session s r (bookmark r.bookmark s) edits refl h
 
 -- ---- a bookmark that is read isn't deleted
 
@@ -244,15 +246,15 @@ cells_copied : (n : ℕ) (o : Option Begun) (s : State) → cells_of (copied n o
 cells_copied n None s = refl
 cells_copied n (Some b) s = refl
 
-cells-with_copies : (s : State) → cells_of (with_copies s) ≡ cells_of s
+pub cells-with_copies : (s : State) → cells_of (with_copies s) ≡ cells_of s
 unfolding with_copies
 cells-with_copies s = cells_copied s.settings.ckpt_pages s.underway s
 
-cells_all_copies : (s : State) → cells_of (with_all_copies s) ≡ cells_of s
+pub cells_all_copies : (s : State) → cells_of (with_all_copies s) ≡ cells_of s
 unfolding with_all_copies
 cells_all_copies s = cells_copied s.pages s.underway s
 
-cells_begin : (s : State) → cells_of (begin_checkpoint s) ≡ cells_of s
+pub cells_begin : (s : State) → cells_of (begin_checkpoint s) ≡ cells_of s
 unfolding begin_checkpoint
 cells_begin s = refl
 
@@ -268,7 +270,7 @@ cells_where : (o : Option Begun) (s : State) → cells_of (complete_where_due o 
 cells_where None s = refl
 cells_where (Some b) s = cells_due b s (length b.left == 0)
 
-cells_with_completion : (s : State) → cells_of (with_completion s) ≡ cells_of s
+pub cells_with_completion : (s : State) → cells_of (with_completion s) ≡ cells_of s
 unfolding with_completion
 cells_with_completion s = cells_where s.underway s
 
@@ -276,7 +278,7 @@ cells-completion_after : (o : Option Begun) (s : State) → cells_of (completion
 cells-completion_after None s = refl
 cells-completion_after (Some b) s = cells_with_completion s
 
-cells_all_forced : (s : State) → cells_of (all_forced s) ≡ cells_of s
+pub cells_all_forced : (s : State) → cells_of (all_forced s) ≡ cells_of s
 unfolding all_forced
 cells_all_forced s = refl
 
@@ -287,7 +289,7 @@ blocking_keeps name s i =
 
 -- ---- the lines of readers
 
-cells_unless : (o : Option Refusal) (reply : Reply) (after s : State) → cells_of after ≡ cells_of s → cells_of ((unless_refused o (reply, after) s).1) ≡ cells_of s
+pub cells_unless : (o : Option Refusal) (reply : Reply) (after s : State) → cells_of after ≡ cells_of s → cells_of ((unless_refused o (reply, after) s).1) ≡ cells_of s
 cells_unless None reply after s e = e
 cells_unless (Some r) reply after s e = refl
 
@@ -295,58 +297,59 @@ cells_open_at : (session : ℕ) (name : List ℕ) (o : Option PlacedRow) (s : St
 cells_open_at session name None s = refl
 cells_open_at session name (Some r) s = cells_unless (option_map BookmarkBusy (reader_on name s)) Done (with_reader session (Some (record { bookmark = name; place = kept_place r })) s) s refl
 
-cells_opened : (session : ℕ) (name : List ℕ) (s : State) (c : Bool) → cells_of ((cond c (refused (BookmarkBusy session) s) (open_at session name (bookmark name s) s)).1) ≡ cells_of s
+pub cells_opened : (session : ℕ) (name : List ℕ) (s : State) (c : Bool) → cells_of ((cond c (refused (BookmarkBusy session) s) (open_at session name (bookmark name s) s)).1) ≡ cells_of s
 cells_opened session name s true = refl
 cells_opened session name s false = cells_open_at session name (bookmark name s) s
 
-cells_given : (session : ℕ) (o : Option Reader) (n : ℕ) (s : State) → cells_of ((given session o n s).1) ≡ cells_of s
+pub cells_given : (session : ℕ) (o : Option Reader) (n : ℕ) (s : State) → cells_of ((given session o n s).1) ≡ cells_of s
 cells_given session None n s = refl
-cells_given session (Some r) n s = refl
+cells_given session (Some r) n s =
+    cells_unless (no_skip (next_place_of r n s)) ((given_to session r n s).0) ((given_to session r n s).1) s refl
 
-cells_closed : (session : ℕ) (o : Option Reader) (s : State) → cells_of ((closed session o s).1) ≡ cells_of s
+pub cells_closed : (session : ℕ) (o : Option Reader) (s : State) → cells_of ((closed session o s).1) ≡ cells_of s
 cells_closed session None s = refl
 cells_closed session (Some r) s = refl
 
 -- ---- each line
 
-line_keeps : (name : List ℕ) (session : ℕ) (command : Command) (s : State) → IsSound s → HasItsBookmark session (Ok command) s → ReadBy name s → HasIn name (cells_of s) →
+line_keeps : (name : List ℕ) (session : ℕ) (command : Command) (s : State) → IsSound s → ReadBy name s → HasIn name (cells_of s) →
     HasIn name (cells_of ((line session command s).1))
 unfolding line meant_by_drop_table meant_by_drop_index meant_by_delete_bookmark meant_by_unsubscribe meant_by_acknowledge
-line_keeps name session (Insert table values) s h n b i = statement_keeps name session _ s i
-line_keeps name session (Update table sets cond) s h n b i = statement_keeps name session _ s i
-line_keeps name session (Delete table cond) s h n b i = statement_keeps name session _ s i
-line_keeps name session (Select table items cond order) s h n b i = statement_keeps name session _ s i
-line_keeps name session CommitLine s h n b i = commit_keeps name session (s.own session) s h refl i
-line_keeps name session Rollback s h n b i = rollback_keeps name session (s.own session) s i
-line_keeps name session DurableCommit s h n b i = i
-line_keeps name session Flush s h n b i = subst (HasIn name) (sym (cells_all_forced s)) i
-line_keeps name session LogHolds s h n b i = i
-line_keeps name session Bookmark s h n b i = i
-line_keeps name session (CreateTable x columns key) s h n b i =
+line_keeps name session (Insert table values) s h b i = statement_keeps name session _ s i
+line_keeps name session (Update table sets cond) s h b i = statement_keeps name session _ s i
+line_keeps name session (Delete table cond) s h b i = statement_keeps name session _ s i
+line_keeps name session (Select table items cond order) s h b i = statement_keeps name session _ s i
+line_keeps name session CommitLine s h b i = commit_keeps name session (s.own session) s h refl i
+line_keeps name session Rollback s h b i = rollback_keeps name session (s.own session) s i
+line_keeps name session DurableCommit s h b i = i
+line_keeps name session Flush s h b i = subst (HasIn name) (sym (cells_all_forced s)) i
+line_keeps name session LogHolds s h b i = i
+line_keeps name session Bookmark s h b i = i
+line_keeps name session (CreateTable x columns key) s h b i =
     system-keeps name _ s h (λ edits m. let p = create_table-new session s x columns key edits m in (may_new s edits h (p.1), new-keep name edits (p.1))) i
-line_keeps name session (CreateIndex x table columns unique) s h n b i =
+line_keeps name session (CreateIndex x table columns unique) s h b i =
     system-keeps name _ s h (λ edits m. let p = create_index_new session s x table columns unique edits m in (may_new s edits h (p.1), new-keep name edits (p.1))) i
-line_keeps name session (XlaCreate x) s h n b i =
+line_keeps name session (XlaCreate x) s h b i =
     system-keeps name _ s h (λ edits m. let p = create_bookmark-new session s x edits m in (may_new s edits h (p.1), new-keep name edits (p.1))) i
-line_keeps name session (XlaSubscribe table x) s h n b i =
+line_keeps name session (XlaSubscribe table x) s h b i =
     system-keeps name _ s h (λ edits m. let p = subscribe_new session s table x edits m in (may_new s edits h (p.1), new-keep name edits (p.1))) i
-line_keeps name session (DropTable x) s h n b i =
+line_keeps name session (DropTable x) s h b i =
     system-keeps name _ s h (λ edits m. (may_good s edits h (drop_table-good session s x edits m), drop_table_keep name session s (table_named x (catalog s)) edits m)) i
-line_keeps name session (DropIndex x) s h n b i =
+line_keeps name session (DropIndex x) s h b i =
     system-keeps name _ s h (λ edits m. (may_good s edits h (drop_index-good session s x edits m), drop_index_keep name session s (index_named x (catalog s)) edits m)) i
-line_keeps name session (XlaDelete x) s h n b i =
+line_keeps name session (XlaDelete x) s h b i =
     system-keeps name _ s h (λ edits m. (may_good s edits h (delete_bookmark-good session s x edits m), delete_bookmark_keep name session s x (bookmark x s) edits b refl m)) i
-line_keeps name session (XlaUnsubscribe table x) s h n b i =
+line_keeps name session (XlaUnsubscribe table x) s h b i =
     system-keeps name _ s h (λ edits m. (may_good s edits h (unsubscribe-good session s table x edits m), unsubscribe_keep name session s x (table_named table (catalog s)) edits m)) i
-line_keeps name session XlaAcknowledge s h n b i =
-    system-keeps name _ s h (λ edits m. (may_good s edits h (acknowledge-good session s edits n m), acknowledge_keep name session s (s.reader session) edits m)) i
-line_keeps name session (XlaOpen x) s h n b i = subst (HasIn name) (sym (cells_opened session x s (is_some (s.reader session)))) i
-line_keeps name session (XlaNext count) s h n b i = subst (HasIn name) (sym (cells_given session (s.reader session) count s)) i
-line_keeps name session XlaClose s h n b i = subst (HasIn name) (sym (cells_closed session (s.reader session) s)) i
-line_keeps name session (BackupLine set kind) s h n b i = backup_keeps name session set (kind_done kind set s) s h i
-line_keeps name session Ckpt s h n b i =
+line_keeps name session XlaAcknowledge s h b i =
+    system-keeps name _ s h (λ edits m. (may_good s edits h (acknowledge-good session s edits m), acknowledge_keep name session s (s.reader session) edits m)) i
+line_keeps name session (XlaOpen x) s h b i = subst (HasIn name) (sym (cells_opened session x s (is_some (s.reader session)))) i
+line_keeps name session (XlaNext count) s h b i = subst (HasIn name) (sym (cells_given session (s.reader session) count s)) i
+line_keeps name session XlaClose s h b i = subst (HasIn name) (sym (cells_closed session (s.reader session) s)) i
+line_keeps name session (BackupLine set kind) s h b i = backup_keeps name session set (kind_done kind set s) s h i
+line_keeps name session Ckpt s h b i =
     keeps-unless name (option_or (checkpoint_open s) (no_checkpoint_number s)) (begun_reply s) (begin_checkpoint s) s i (subst (HasIn name) (sym (cells_begin s)) i)
-line_keeps name session CkptBlocking s h n b i =
+line_keeps name session CkptBlocking s h b i =
     keeps-unless name (option_or (checkpoint_open s) (option_or (least_open (live_in s)) (no_checkpoint_number s))) (begun_reply s) (with_completion (with_all_copies (begin_checkpoint s))) s i (blocking_keeps name s i)
 
 -- ---- readers and their bookmarks
@@ -377,12 +380,6 @@ kept_one s who o w k f session r e = by_session (nat_eq session who) refl e
     by_session true same e = (subst IsSession (sym (eqb-true session who same)) w, f r e)
     by_session false other e = k session r e
 
-kept_given : (s : State) (who n : ℕ) (o : Option Reader) → s.reader who ≡ o → IsSession who → Kept s → Kept ((given who o n s).1)
-kept_given s who n None e w k = k
-kept_given s who n (Some x) e w k =
-    kept_one s who (Some (record x { place = next_place_of x n s })) w k
-    (λ r same. subst (λ (y : Reader). HasIn y.bookmark (cells_of s)) (some_reader (record x { place = next_place_of x n s }) r same) ((k who x e).1))
-
 kept_closed : (s : State) (who : ℕ) (o : Option Reader) → IsSession who → Kept s → Kept ((closed who o s).1)
 kept_closed s who None w k = k
 kept_closed s who (Some x) w k = kept_one s who None w k (λ r same. let no : ⊥ = cc in absurd no)
@@ -390,6 +387,13 @@ kept_closed s who (Some x) w k = kept_one s who None w k (λ r same. let no : �
 kept_unless : (o : Option Refusal) (reply : Reply) (after s : State) → Kept s → Kept after → Kept ((unless_refused o (reply, after) s).1)
 kept_unless None reply after s k j = j
 kept_unless (Some r) reply after s k j = k
+
+kept_given : (s : State) (who n : ℕ) (o : Option Reader) → s.reader who ≡ o → IsSession who → Kept s → Kept ((given who o n s).1)
+kept_given s who n None e w k = k
+kept_given s who n (Some x) e w k =
+    kept_unless (no_skip (next_place_of x n s)) ((given_to who x n s).0) ((given_to who x n s).1) s k
+    (kept_one s who (Some (record x { place = next_place_of x n s })) w k
+    (λ r same. subst (λ (y : Reader). HasIn y.bookmark (cells_of s)) (some_reader (record x { place = next_place_of x n s }) r same) ((k who x e).1)))
 
 kept_open : (s : State) (who : ℕ) (name : List ℕ) (o : Option PlacedRow) → bookmark name s ≡ o → IsSession who → Kept s → Kept ((open_at who name o s).1)
 kept_open s who name None e w k = k
@@ -402,20 +406,20 @@ kept_opened : (s : State) (who : ℕ) (name : List ℕ) (c : Bool) → IsSession
 kept_opened s who name true w k = k
 kept_opened s who name false w k = kept_open s who name (bookmark name s) refl w k
 
-kept_plain : (s : State) (who : ℕ) (command : Command) → IsSound s → HasItsBookmark who (Ok command) s → ((line who command s).1).reader ≡ s.reader → Kept s → Kept ((line who command s).1)
-kept_plain s who command h n same k session r e =
+kept_plain : (s : State) (who : ℕ) (command : Command) → IsSound s → ((line who command s).1).reader ≡ s.reader → Kept s → Kept ((line who command s).1)
+kept_plain s who command h same k session r e =
     let now : s.reader session ≡ Some r = ap (λ (f : ℕ → Option Reader). f session) (sym same) ∙ e in
     let there : IsSession session × HasIn r.bookmark (cells_of s) = k session r now in (
       there.0,
-      line_keeps r.bookmark who command s h n (record { session = session; reader = r; is_session = there.0; is_open = now; bookmark_is = refl }) (there.1),
+      line_keeps r.bookmark who command s h (record { session = session; reader = r; is_session = there.0; is_open = now; bookmark_is = refl }) (there.1),
     )
 
-kept-command : (s : State) (who : ℕ) (command : Command) → IsSession who → IsSound s → HasItsBookmark who (Ok command) s → Kept s → Kept ((line who command s).1)
+kept-command : (s : State) (who : ℕ) (command : Command) → IsSession who → IsSound s → Kept s → Kept ((line who command s).1)
 unfolding line
-kept-command s who (XlaNext n) w h b k = kept_given s who n (s.reader who) refl w k
-kept-command s who (XlaOpen name) w h b k = kept_opened s who name (is_some (s.reader who)) w k
-kept-command s who XlaClose w h b k = kept_closed s who (s.reader who) w k
-kept-command s who command w h b k = kept_plain s who command h b (readers-command who command s refl) k
+kept-command s who (XlaNext n) w h k = kept_given s who n (s.reader who) refl w k
+kept-command s who (XlaOpen name) w h k = kept_opened s who name (is_some (s.reader who)) w k
+kept-command s who XlaClose w h k = kept_closed s who (s.reader who) w k
+kept-command s who command w h k = kept_plain s who command h (readers-command who command s refl) k
 
 cells_memory : (session : ℕ) (what : Result Command Refusal) (s : State) (reply : Reply) (after : State) → WantsMemory session what s reply after → cells_of after ≡ cells_of s
 cells_memory session (Err r) s reply after w = absurd w
@@ -424,26 +428,19 @@ cells_memory session (Ok command) s reply after w = elim (w.2) [
   | inr forced ↦ ap cells_of (forced.1) ∙ cells_all_forced s
 ]
 
-kept-answers : (s : State) (who : ℕ) (what : Result Command Refusal) (reply : Reply) (after : State) → IsSession who → IsSound s → HasItsBookmark who what s → Kept s →
+kept-answers : (s : State) (who : ℕ) (what : Result Command Refusal) (reply : Reply) (after : State) → IsSession who → IsSound s → Kept s →
     Answers who what s reply after → Kept after
-kept-answers s who what reply after w h b k (inr m) = kept-same s after (readers-memory who what s reply after m) (cells_memory who what s reply after m) k
-kept-answers s who (Ok command) reply after w h b k (inl t) = subst Kept (sym (t.1)) (kept-command s who command w h b k)
-kept-answers s who (Err r) reply after w h b k (inl t) = subst Kept (sym (t.1)) k
-
--- A reader's own bookmark is there.
-pub its_bookmark : (who : ℕ) (what : Result Command Refusal) (s : State) → ReadersHaveBookmarks s → HasItsBookmark who what s
-its_bookmark who (Ok XlaAcknowledge) s k = λ r e. (k who r e).1
-its_bookmark who (Ok command) s k = tt
-its_bookmark who (Err r) s k = tt
+kept-answers s who what reply after w h k (inr m) = kept-same s after (readers-memory who what s reply after m) (cells_memory who what s reply after m) k
+kept-answers s who (Ok command) reply after w h k (inl t) = subst Kept (sym (t.1)) (kept-command s who command w h k)
+kept-answers s who (Err r) reply after w h k (inl t) = subst Kept (sym (t.1)) k
 
 stay-step : (s : State) (who : ℕ) (what : Result Command Refusal) (reply : Reply) (after : State) → IsSession who → IsSound s → ReadersHaveBookmarks s → Step s who what reply after →
     IsSound after × ReadersHaveBookmarks after
 stay-step s who what reply after w h k st =
     let copied_sound : IsSound (with_copies s) = sound-with_copies s h in
     let copied_kept : Kept (with_copies s) = kept-same s (with_copies s) (readers-with_copies s) (cells-with_copies s) (kept-from s k) in
-    let its : HasItsBookmark who what (with_copies s) = its_bookmark who what (with_copies s) (kept-to (with_copies s) copied_sound copied_kept) in
-    let sound : IsSound after = sound-step s who what reply after its h st in
-    let between : Kept st.between = kept-answers (with_copies s) who what reply st.between w copied_sound its copied_kept st.line in
+    let sound : IsSound after = sound-step s who what reply after h st in
+    let between : Kept st.between = kept-answers (with_copies s) who what reply st.between w copied_sound copied_kept st.line in
     let done : Kept (completion_after s.underway st.between)
     = kept-same st.between (completion_after s.underway st.between) (readers-completion_after s.underway st.between) (cells-completion_after s.underway st.between) between in
     (sound, kept-to after sound (subst Kept (sym st.is) done))

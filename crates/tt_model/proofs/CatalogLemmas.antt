@@ -11,7 +11,8 @@ use Rattle.tt_model.specs.Trail.{Trail}
 use Rattle.tt_model.specs.Committed.{Cells, committed, changed, changed_by, put}
 use Rattle.tt_model.specs.Live.{live, is_live, after_number, next_number}
 use Rattle.tt_model.specs.Holders.{Held, has_held, holds_by, is_held_by}
-use Rattle.tt_model.specs.State.{State, CellEdit, trail, next, with_entry, with_edit, with_edits}
+use Rattle.tt_model.specs.State.{State, trail, next, with_entry, with_edit, with_edits}
+use Rattle.tt_model.specs.declared.definition.CellEdit.{CellEdit}
 use Rattle.tt_model.specs.Sound.{whole_table, IsUserTable, KeepsCatalog, MayWrite}
 use Rattle.tt_model.proofs.SteadyLemmas.{list_any-with_number, is_in-without}
 

@@ -3,7 +3,7 @@ use Rattle.std.proofs.Common.{◌≡◌, ◌⊎◌, ◌≤◌, ◌<◌, ◌+◌,
 use Rattle.std.proofs.lemmas.Bool.{ltb-true, lt-ltb, or_left, or_right, or_cases, false_from_ne_true}
 use Rattle.tt_value.specs.declared.position.Position.{Position}
 use Rattle.tt_model.specs.Trail.{Trail, Placed, position_eq, placed_end}
-use Rattle.tt_model.specs.Tables.{Catalog, Subscribed}
+use Rattle.tt_model.specs.Tables.{Subscribed, Catalog}
 use Rattle.tt_model.specs.State.{ReadPlace}
 use Rattle.tt_model.specs.Due.{Done, DueChange, open_changes, counted, is_subscribed, is_last, marked, after_skip, last_of}
 use Rattle.tt_model.proofs.OrderLemmas.{eq_self}

@@ -12,7 +12,8 @@ use Rattle.tt_model.specs.Committed.{Cells, current, committed, is_full}
 use Rattle.tt_model.specs.Live.{live, is_live, touched, in_use, least_from, view_of}
 use Rattle.tt_model.specs.Holders.{Held, holds_by, is_held_by, has_held, other_holder, is_own}
 use Rattle.tt_model.specs.Steady.{MayChange}
-use Rattle.tt_model.specs.State.{State, CellEdit, trail, next, bound, is_used, free_place, place_for, with_entry, with_edit}
+use Rattle.tt_model.specs.State.{State, trail, next, bound, is_used, free_place, place_for, with_entry, with_edit}
+use Rattle.tt_model.specs.declared.definition.CellEdit.{CellEdit}
 use Rattle.tt_model.specs.Sound.{has_mark, MayWrite, MayEdit}
 use Rattle.tt_model.specs.Step.{number_for}
 use Rattle.tt_model.proofs.SteadyLemmas.{at_place, list_any-with_number}

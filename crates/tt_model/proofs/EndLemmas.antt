@@ -7,7 +7,8 @@ use Rattle.tt_record.specs.declared.entry.Entry.TheVariants.{Change, Commit, Abo
 use Rattle.tt_model.specs.Trail.{Trail}
 use Rattle.tt_model.specs.Live.{live, live_after, is_live, with_number}
 use Rattle.tt_model.specs.Found.{Found}
-use Rattle.tt_model.specs.State.{State, CellEdit, live_in, with_entry, with_edit, with_edits, all_forced, reversals}
+use Rattle.tt_model.specs.State.{State, live_in, with_entry, with_edit, with_edits, all_forced, reversals}
+use Rattle.tt_model.specs.declared.definition.CellEdit.{CellEdit}
 use Rattle.tt_model.specs.Sound.{KeepsCatalog, IsSound}
 use Rattle.tt_model.specs.Step.{rolled_back}
 use Rattle.tt_model.specs.Run.{has_place, ended_one, roll_all, ended}
@@ -18,7 +19,7 @@ use Rattle.tt_model.proofs.SoundLines.{sound-all_forced, log-rolled_back, live-r
 
 -- ---- live transactions are in ascending number
 
-abbrev AreAscending : List ℕ → Type 0
+abbrev pub AreAscending : List ℕ → Type 0
 AreAscending [] = Unit {0}
 AreAscending (t ∷ ts) = ((u : ℕ) → list_any (nat_eq u) ts ≡ true → t < u) × AreAscending ts
 
@@ -66,7 +67,7 @@ ascending_after (Abort t) us h = ascending-filter (λ u. not (nat_eq t u)) us h
 ascending_after Mark us h = tt
 ascending_after (Switch n) us h = h
 
-ascending-live : (es : Trail) → AreAscending (live es)
+pub ascending-live : (es : Trail) → AreAscending (live es)
 unfolding live
 ascending-live [] = tt
 ascending-live (e ∷ es) = ascending_after e.entry (live es) (ascending-live es)
@@ -81,7 +82,7 @@ kept_own t u (Some v) h = kept t u v (nat_eq t v) refl h
     kept t u v true e h = let no : ⊥ = cc in absurd no
     kept t u v false e h = let same : v ≡ u = cc in (h, ap (nat_eq t) (sym same) ∙ e)
 
-sound-ended_one : (t : ℕ) (s : State) → IsSound s → is_live t s.entries ≡ true → IsSound (ended_one t s)
+pub sound-ended_one : (t : ℕ) (s : State) → IsSound s → is_live t s.entries ≡ true → IsSound (ended_one t s)
 sound-ended_one t s h l = record {
   entries = log-rolled_back t s h.entries l;
   owned = record {
@@ -94,10 +95,10 @@ sound-ended_one t s h l = record {
 
 -- ---- all of them
 
-abbrev AreLive : List ℕ → State → Type 0
+abbrev pub AreLive : List ℕ → State → Type 0
 AreLive ts s = (u : ℕ) → list_any (nat_eq u) ts ≡ true → is_live u s.entries ≡ true
 
-others_live : (t : ℕ) (ts : List ℕ) (s : State) → AreAscending (t ∷ ts) → AreLive (t ∷ ts) s → AreLive ts (ended_one t s)
+pub others_live : (t : ℕ) (ts : List ℕ) (s : State) → AreAscending (t ∷ ts) → AreLive (t ∷ ts) s → AreLive ts (ended_one t s)
 others_live t ts s a l u h =
     live-rolled_back u t s (false_from_ne_true (nat_eq t u) (λ y. let same : t ≡ u = eqb-true t u y in let above : t < u = (a.0) u h in omega (arith, same, above)))
     (l u (or_right (nat_eq u t) (list_any (nat_eq u) ts) h))
@@ -113,7 +114,7 @@ sound-roll_all (t ∷ ts) s h a l =
     (sound-roll_all ts (ended_one t s) (sound-ended_one t s h (l t (or_left (nat_eq t t) (list_any (nat_eq t) ts) (eq-eqb t t refl)))) (a.1) (others_live t ts s a l))
     (has_place t s)
 
-live_in_entries : (s : State) → IsSound s → live_in s ≡ live s.entries
+pub live_in_entries : (s : State) → IsSound s → live_in s ≡ live s.entries
 live_in_entries s h = live-marked s.entries s.found.entries (h.entries).marked
 
 -- The end of a run leaves a sound state.

@@ -72,7 +72,7 @@ count_from : (n from : ℕ) → length (numbers_from n from) ≡ n
 count_from zero from = refl
 count_from (suc n) from = ap suc (count_from n (suc from))
 
-none_left : (s : State) → drop s.pages (stale_pages (other_file s) s) ≡ []
+pub none_left : (s : State) → drop s.pages (stale_pages (other_file s) s) ≡ []
 none_left s =
     let few : length (stale_pages (other_file s) s) ≤ length (numbers_from s.pages 0) = fewer_pages (s.stale (other_file s)) (numbers_from s.pages 0) in
     let count : length (numbers_from s.pages 0) ≡ s.pages = count_from s.pages 0 in

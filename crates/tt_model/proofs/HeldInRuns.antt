@@ -21,9 +21,9 @@ use Rattle.tt_model.specs.Values.{same_values}
 use Rattle.tt_model.specs.Holders.{Held, HasOneHolder, values_at, has_held, holds_by, is_held_by}
 use Rattle.tt_model.specs.Found.{Found}
 use Rattle.tt_model.specs.Sets.{SetStanding}
-use Rattle.tt_model.specs.Tables.{Table, Index, Catalog, PlacedRow, row_at, rows_of, number_at, by_number, in_order, inserted, index_of, key_of, catalog_of}
+use Rattle.tt_model.specs.Tables.{Table, Index, PlacedRow, row_at, rows_of, number_at, by_number, in_order, inserted, index_of, key_of, catalog_of, Catalog}
 use Rattle.tt_model.specs.State.{State, Begun, cells_of, bound, catalog, with_entry}
-use Rattle.tt_model.specs.Sound.{whole_table, IsSound, HasItsBookmark}
+use Rattle.tt_model.specs.Sound.{whole_table, IsSound}
 use Rattle.tt_model.specs.Checkpoint.{copied, with_copies}
 use Rattle.tt_model.specs.Step.{Step}
 use Rattle.tt_model.specs.Run.{Line, Run, begun}
@@ -32,7 +32,7 @@ use Rattle.tt_model.proofs.OneHolderLemmas.{one_holder-Mark}
 use Rattle.tt_model.proofs.RowLemmas.{LieIn, are_rows-rows_of, are_rows-in_order}
 use Rattle.tt_model.proofs.IsolationLemmas.{full-below}
 use Rattle.tt_model.proofs.SoundLines.{sound-with_copies}
-use Rattle.tt_model.proofs.BookmarkLines.{its_bookmark, bookmarks_stay}
+use Rattle.tt_model.proofs.BookmarkLines.{bookmarks_stay}
 use Rattle.tt_model.proofs.OneHolderStatements.{IsAmong, AllSafe, key_columns, keys-by_number, each-mapped, number-safe, value-safe}
 use Rattle.tt_model.proofs.OneHolderRounds.{one-round, catalog-with_copies}
 use Rattle.tt_model.proofs.TableRows.{AreAlike, HasTable, columns-alike}
@@ -41,7 +41,7 @@ use Rattle.tt_model.proofs.TableRounds.{TablesAreThere, KeepsTables, there-after
 
 -- ---- who holds a name holds its table
 
-whole_cell : (name : Held) (c : Cell) → has_held name c ≡ true → has_held (whole_table name.table) c ≡ true
+pub whole_cell : (name : Held) (c : Cell) → has_held name c ≡ true → has_held (whole_table name.table) c ≡ true
 whole_cell name Empty h = absurd (true≢false (sym h))
 whole_cell name (Full table row) h =
     and_from (nat_eq name.table table) true ((and_parts (nat_eq name.table table) (same_values (values_at name.columns row) name.values) h).0) refl
@@ -61,7 +61,7 @@ whole_entry name t (Abort u) h = absurd (true≢false (sym h))
 whole_entry name t Mark h = absurd (true≢false (sym h))
 whole_entry name t (Switch f) h = absurd (true≢false (sym h))
 
-whole-held : (name : Held) (t : ℕ) (es : Trail) → is_held_by name es t ≡ true → is_held_by (whole_table name.table) es t ≡ true
+pub whole-held : (name : Held) (t : ℕ) (es : Trail) → is_held_by name es t ≡ true → is_held_by (whole_table name.table) es t ≡ true
 whole-held name t [] h = absurd (true≢false (sym h))
 whole-held name t (e ∷ es) h = elim (or_cases (holds_by name t e.entry) (is_held_by name es t) h) [
   | inl y ↦ or_left (holds_by (whole_table name.table) t e.entry) (is_held_by (whole_table name.table) es t) (whole_entry name t e.entry y)
@@ -70,7 +70,7 @@ whole-held name t (e ∷ es) h = elim (or_cases (holds_by name t e.entry) (is_he
 
 -- ---- an index among those of the catalog
 
-among_map : {X Y : Type 0} (f : X → Y) (x : X) (xs : List X) → IsAmong x xs → IsAmong (f x) (map f xs)
+pub among_map : {X Y : Type 0} (f : X → Y) (x : X) (xs : List X) → IsAmong x xs → IsAmong (f x) (map f xs)
 among_map f x [] a = absurd a
 among_map f x (y ∷ ys) (inl same) = inl (ap f same)
 among_map f x (y ∷ ys) (inr a) = inr (among_map f x ys a)
@@ -85,7 +85,7 @@ among_inserted : (z : PlacedRow) (cmp : PlacedRow → PlacedRow → Ordering) (x
 among_inserted z cmp x [] a = a
 among_inserted z cmp x (y ∷ ys) a = inserted_step z x y ys (inserted cmp x ys) a (among_inserted z cmp x ys) (is_gt (cmp x y))
 
-among_in_order : (z : PlacedRow) (cmp : PlacedRow → PlacedRow → Ordering) (xs : List PlacedRow) → IsAmong z xs → IsAmong z (in_order cmp xs)
+pub among_in_order : (z : PlacedRow) (cmp : PlacedRow → PlacedRow → Ordering) (xs : List PlacedRow) → IsAmong z xs → IsAmong z (in_order cmp xs)
 among_in_order z cmp [] a = absurd a
 among_in_order z cmp (x ∷ xs) (inl same) = among_inserted z cmp x (in_order cmp xs) (inl same)
 among_in_order z cmp (x ∷ xs) (inr a) = among_inserted z cmp x (in_order cmp xs) (inr (among_in_order z cmp xs a))
@@ -97,7 +97,7 @@ later_among z (Some r) rows a = inr a
 row_here : (table q : ℕ) (row : Row) (cells : Cells) → cells q ≡ Full table row → row_at table cells q ≡ Some (q, row)
 row_here table q row cells e = rw e (ap (λ b. option_map (λ (x : Row). (q, x)) (if b then Some row else None)) (eq-eqb table table refl))
 
-among_rows : (table q : ℕ) (row : Row) (cells : Cells) (n from : ℕ) → cells q ≡ Full table row → from ≤ q → q < from + n → IsAmong (q, row) (filter_map (row_at table cells) (numbers_from n from))
+pub among_rows : (table q : ℕ) (row : Row) (cells : Cells) (n from : ℕ) → cells q ≡ Full table row → from ≤ q → q < from + n → IsAmong (q, row) (filter_map (row_at table cells) (numbers_from n from))
 among_rows table q row cells zero from e l m = absurd (omega (arith, l, m))
 among_rows table q row cells (suc n) from e l m = elim (cases_Bool (nat_eq q from)) [
   | inl y ↦
@@ -108,7 +108,7 @@ among_rows table q row cells (suc n) from e l m = elim (cases_Bool (nat_eq q fro
       later_among (q, row) (row_at table cells from) (filter_map (row_at table cells) (numbers_from n (suc from))) (among_rows table q row cells n (suc from) e (omega (arith, l, other)) (omega (arith, m)))
 ]
 
-index-among : (s : State) (q : ℕ) (row : Row) → IsSound s → cells_of s q ≡ Full 3 row → IsAmong (index_of (q, row)) (catalog s).indexes
+pub index-among : (s : State) (q : ℕ) (row : Row) → IsSound s → cells_of s q ≡ Full 3 row → IsAmong (index_of (q, row)) (catalog s).indexes
 unfolding catalog_of rows_of
 index-among s q row h e =
     let below : q < bound s = full-below s q h (ap is_full e) in
@@ -165,7 +165,7 @@ readers_copied : (n : ℕ) (o : Option Begun) (s : State) → ReadersHaveBookmar
 readers_copied n None s k = k
 readers_copied n (Some b) s k = k
 
-readers-with_copies : (s : State) → ReadersHaveBookmarks s → ReadersHaveBookmarks (with_copies s)
+pub readers-with_copies : (s : State) → ReadersHaveBookmarks s → ReadersHaveBookmarks (with_copies s)
 unfolding with_copies
 readers-with_copies s k = readers_copied s.settings.ckpt_pages s.underway s k
 
@@ -174,8 +174,7 @@ once-run [] [] s after w h k o run = subst IsHeldOnce (sym run) o
 once-run (l ∷ ls) (r ∷ rs) s after w h k o run =
     let mid : State = run.0 in
     let kept : IsSound mid × ReadersHaveBookmarks mid = bookmarks_stay.step s l.session l.what r mid (w.0) h k (run.1) in
-    let its : HasItsBookmark l.session l.what (with_copies s) = its_bookmark l.session l.what (with_copies s) (readers-with_copies s k) in
-    let leaves : KeepsTables s mid = leaves-step s l.session l.what r mid (sound-with_copies s h) its o.tables (run.1) in
+    let leaves : KeepsTables s mid = leaves-step s l.session l.what r mid (sound-with_copies s h) o.tables (run.1) in
     once-run ls rs mid after (w.1) (kept.0) (kept.1) (once_after s l.session l.what r mid h (kept.0) o leaves (run.1)) (run.2)
 once-run [] (r ∷ rs) s after w h k o run = absurd run
 once-run (l ∷ ls) [] s after w h k o run = absurd run

@@ -14,11 +14,12 @@ use Rattle.tt_record.specs.declared.entry.Entry.TheVariants.{Change, Commit, Abo
 use Rattle.tt_model.specs.Trail.{Trail}
 use Rattle.tt_model.specs.Committed.{Cells, put, is_full, changed, changed_by}
 use Rattle.tt_model.specs.Live.{live, is_live, touched, in_use, view_of, numbers_from}
-use Rattle.tt_model.specs.Tables.{Table, Catalog, PlacedRow, row_in, row_at, rows_of, in_order, table_of, index_of, by_number, catalog_of, table_named}
+use Rattle.tt_model.specs.Tables.{Table, PlacedRow, row_in, row_at, rows_of, in_order, table_of, index_of, by_number, catalog_of, table_named, Catalog}
 use Rattle.tt_model.specs.Conditions.{takes}
 use Rattle.tt_model.specs.Meaning.{Meant, Refuses, Gives, Makes, unless, select_refusal, shown, order_cmp, select_in, rows_seen, meant_by_select}
 use Rattle.tt_value.specs.declared.refusal.Refusal.TheVariants.{NoTable}
-use Rattle.tt_model.specs.State.{State, CellEdit, Begun, trail, view, cells_of, bound, catalog}
+use Rattle.tt_model.specs.State.{State, Begun, trail, view, cells_of, bound, catalog}
+use Rattle.tt_model.specs.declared.definition.CellEdit.{CellEdit}
 use Rattle.tt_model.specs.Sound.{IsSound}
 use Rattle.tt_model.specs.Checkpoint.{copied, with_copies}
 use Rattle.tt_model.specs.Step.{line, statement}
@@ -65,7 +66,7 @@ view-alike session s other l =
 
 -- ---- rows below two bounds
 
-IsEmptyFrom : ℕ → Cells → Type 0
+pub IsEmptyFrom : ℕ → Cells → Type 0
 IsEmptyFrom k cells = (q : ℕ) → k ≤ q → is_full (cells q) ≡ false
 
 no_row : (table q : ℕ) (c : Cell) → is_full c ≡ false → option_map {U = PlacedRow} (λ row. (q, row)) (row_in table c) ≡ None
@@ -87,7 +88,7 @@ longer table k (suc n) (suc m) from cells e l h =
     ap (cons_option (row_at table cells from)) (longer table k n m (suc from) cells e (omega (arith, l)) (omega (arith, h)))
 
 -- Where no row lies at or above either bound, the rows below both are the same.
-rows_of-bounds : (table m n : ℕ) (cells : Cells) → IsEmptyFrom m cells → IsEmptyFrom n cells → rows_of table m cells ≡ rows_of table n cells
+pub rows_of-bounds : (table m n : ℕ) (cells : Cells) → IsEmptyFrom m cells → IsEmptyFrom n cells → rows_of table m cells ≡ rows_of table n cells
 unfolding rows_of
 rows_of-bounds table m n cells e f = elim (cases_Bool (nat_le m n)) [
   | inl y ↦ sym (longer table m m n 0 cells e (omega arith) (leb-true m n y))
@@ -99,20 +100,20 @@ pub full-below : (s : State) (q : ℕ) → IsSound s → is_full (cells_of s q) 
 unfolding in_use
 full-below s q h y = (h.entries).below q (or_left (is_full (cells_of s q)) (list_any (λ t. touched t q (trail s)) (live (trail s))) y)
 
-touched-below_bound : (s : State) (t q : ℕ) → IsSound s → is_live t s.entries ≡ true → touched t q s.entries ≡ true → q < bound s
+pub touched-below_bound : (s : State) (t q : ℕ) → IsSound s → is_live t s.entries ≡ true → touched t q s.entries ≡ true → q < bound s
 unfolding in_use
 touched-below_bound s t q h l y =
     (h.entries).below q (or_right (is_full (cells_of s q)) (list_any (λ u. touched u q (trail s)) (live (trail s)))
     (has_one (λ u. touched u q (trail s)) t (live (trail s)) (is_live-marked t s.entries s.found.entries (h.entries).marked ∙ l) (touched-trail t q s.entries s.found.entries y)))
 
-seen-below : (s : State) (q : ℕ) (o : Option ℕ) → ((t : ℕ) → o ≡ Some t → is_live t s.entries ≡ true) → IsSound s → is_full (view_of o s.entries (cells_of s) q) ≡ true → q < bound s
+pub seen-below : (s : State) (q : ℕ) (o : Option ℕ) → ((t : ℕ) → o ≡ Some t → is_live t s.entries ≡ true) → IsSound s → is_full (view_of o s.entries (cells_of s) q) ≡ true → q < bound s
 seen-below s q None lives h y = full-below s q h y
 seen-below s q (Some t) lives h y = elim (cases_Bool (touched t q s.entries)) [
   | inl k ↦ touched-below_bound s t q h (lives t refl) k
   | inr k ↦ full-below s q h (ap is_full (sym (changed_by-untouched t q s.entries (cells_of s) k)) ∙ y)
 ]
 
-empty_above : (k : ℕ) (cells : Cells) → ((q : ℕ) → is_full (cells q) ≡ true → q < k) → IsEmptyFrom k cells
+pub empty_above : (k : ℕ) (cells : Cells) → ((q : ℕ) → is_full (cells q) ≡ true → q < k) → IsEmptyFrom k cells
 unfolding IsEmptyFrom
 empty_above k cells h q l = false_from_ne_true (is_full (cells q)) (λ y. let low : q < k = h q y in omega (arith, low, l))
 

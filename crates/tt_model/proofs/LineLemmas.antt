@@ -13,9 +13,10 @@ use Rattle.tt_parse.specs.declared.command.ColumnText.{ColumnText}
 use Rattle.tt_model.specs.Tables.{Table, PlacedRow, table_named}
 use Rattle.tt_model.specs.Meaning.{Meant, Makes, Refuses, Gives, unless, first_of, aggregate_refusal, shown, select_refusal, select_in, meant_by_select}
 use Rattle.tt_model.specs.System.{least_unused, column_rows, create_index, subscribe, reader_on, bookmark, meant_by_create_table, meant_by_create_index, meant_by_create_bookmark, meant_by_subscribe}
-use Rattle.tt_model.specs.State.{State, CellEdit, Reader, next, catalog}
+use Rattle.tt_model.specs.State.{State, Reader, next, catalog}
+use Rattle.tt_model.specs.declared.definition.CellEdit.{CellEdit}
 use Rattle.tt_model.specs.Sound.{IsUserTable, IsSound, MayEdit}
-use Rattle.tt_model.specs.Step.{number_for, statement, made, unless_refused, system, no_system_place, no_number_for, no_place, edit_length, commit_of, rollback_of, rollback_lengths, is_durable, end_length, given, closed, refused, open_at}
+use Rattle.tt_model.specs.Step.{number_for, statement, made, unless_refused, system, no_system_place, no_number_for, no_place, edit_length, commit_of, rollback_of, rollback_lengths, is_durable, end_length, given, closed, refused, open_at, no_skip, given_to, next_place_of}
 use Rattle.tt_model.proofs.SoundLines.{sound-made_in, sound-Commit, sound-settled_none, sound-rolled_back, sound-system_done}
 use Rattle.tt_model.proofs.EditLemmas.{AreNew, new-MayEdit}
 use Rattle.tt_model.proofs.StatementLemmas.{unless-makes, makes_same}
@@ -171,7 +172,8 @@ sound_opened_if session name s false h = sound-opened session name (bookmark nam
 
 pub sound-given : (session : ℕ) (o : Option Reader) (n : ℕ) (s : State) → IsSound s → IsSound ((given session o n s).1)
 sound-given session None n s h = h
-sound-given session (Some r) n s h = record { entries = h.entries; owned = h.owned; catalog = h.catalog }
+sound-given session (Some r) n s h =
+    sound-unless (no_skip (next_place_of r n s)) _ ((given_to session r n s).1) s h (record { entries = h.entries; owned = h.owned; catalog = h.catalog })
 
 pub sound-closed : (session : ℕ) (o : Option Reader) (s : State) → IsSound s → IsSound ((closed session o s).1)
 sound-closed session None s h = h

@@ -15,11 +15,12 @@ use Rattle.tt_record.specs.declared.entry.Entry.{Entry}
 use Rattle.tt_record.specs.declared.entry.Entry.TheVariants.{Change, Commit, Abort}
 use Rattle.tt_model.specs.Tables.{PlacedRow}
 use Rattle.tt_model.specs.Sets.{SetStanding, Sound}
-use Rattle.tt_model.specs.State.{State, CellEdit, Reader, at_one, place_for, next, write_position, with_entry, with_edit, with_edits, all_forced, reversals}
+use Rattle.tt_model.specs.State.{State, Reader, at_one, place_for, next, write_position, with_entry, with_edit, with_edits, all_forced, reversals}
+use Rattle.tt_model.specs.declared.definition.CellEdit.{CellEdit}
 use Rattle.tt_model.specs.Meaning.{Meant, Refuses, Gives, Makes}
 use Rattle.tt_model.specs.System.{bookmark, reader_on, deletes}
 use Rattle.tt_model.specs.Backups.{kind_done, backup_refusal, row_of_set, set_edit, full_now, extended_now, with_set}
-use Rattle.tt_model.specs.Step.{line, unless_refused, forced_where, number_for, no_number_for, no_place, no_system_place, edit_length, end_length, rollback_lengths, is_durable, with_reader, kept_place, next_place_of, made, made_in, statement, settled, commit_of, rollback_of, rolled_back, system, system_done, open_at, refused, given, closed, backed_up, backup_place, backup_kind}
+use Rattle.tt_model.specs.Step.{line, unless_refused, forced_where, number_for, no_number_for, no_place, no_system_place, edit_length, end_length, rollback_lengths, is_durable, with_reader, kept_place, next_place_of, made, made_in, statement, settled, commit_of, rollback_of, rolled_back, system, system_done, open_at, refused, given, closed, backed_up, backup_place, backup_kind, no_skip, given_to}
 
 -- A line that begins or ends a checkpoint.
 abbrev pub is_checkpoint : Command → Bool
@@ -113,7 +114,9 @@ module _ (R : State → State → Type 0) (readers : Bool) (same : (s : State) �
 
   r-given : readers ≡ true → (session : ℕ) (o : Option Reader) (n : ℕ) (s : State) → R s ((given session o n s).1)
   r-given y session None n s = same s
-  r-given y session (Some r) n s = reading y (at_one session (Some (record r { place = next_place_of r n s })) s.reader) s
+  r-given y session (Some r) n s =
+      r-unless (no_skip (next_place_of r n s)) ((given_to session r n s).0) ((given_to session r n s).1) s
+      (reading y (at_one session (Some (record r { place = next_place_of r n s })) s.reader) s)
 
   r-closed : readers ≡ true → (session : ℕ) (o : Option Reader) (s : State) → R s ((closed session o s).1)
   r-closed y session None s = same s

@@ -7,7 +7,8 @@ use Rattle.tt_record.specs.declared.entry.Entry.TheVariants.{Change, Commit}
 use Rattle.tt_model.specs.Trail.{Trail}
 use Rattle.tt_model.specs.Live.{live, is_live}
 use Rattle.tt_model.specs.Holders.{Held, has_held, is_held_by, is_own, other_holder, HasOneHolder}
-use Rattle.tt_model.specs.State.{State, CellEdit, placed, trail, next, place_for, with_entry, with_edit, with_edits, reversals}
+use Rattle.tt_model.specs.State.{State, placed, trail, next, place_for, with_entry, with_edit, with_edits, reversals}
+use Rattle.tt_model.specs.declared.definition.CellEdit.{CellEdit}
 use Rattle.tt_model.specs.Sound.{IsSound, MayWrite}
 use Rattle.tt_model.specs.Step.{number_for, rolled_back}
 use Rattle.tt_model.proofs.SteadyLemmas.{at_place, is_in-without}

@@ -15,14 +15,15 @@ use Rattle.tt_set.specs.declared.settings.Settings.{Settings}
 use Rattle.tt_model.specs.Holders.{Held, HasOneHolder}
 use Rattle.tt_model.specs.Found.{Found}
 use Rattle.tt_model.specs.Sets.{Sound, SetStanding}
-use Rattle.tt_model.specs.Tables.{Catalog, PlacedRow, table_named}
-use Rattle.tt_model.specs.State.{State, CellEdit, Reader, Begun, live_in, next, catalog, write_position, with_entry, with_edits, all_forced}
+use Rattle.tt_model.specs.Tables.{PlacedRow, table_named, Catalog}
+use Rattle.tt_model.specs.State.{State, Reader, Begun, live_in, next, catalog, write_position, with_entry, with_edits, all_forced}
+use Rattle.tt_model.specs.declared.definition.CellEdit.{CellEdit}
 use Rattle.tt_model.specs.Meaning.{Meant, Makes, Refuses, Gives, meant_by_insert, meant_by_update, meant_by_delete, meant_by_select}
 use Rattle.tt_model.specs.System.{bookmark, reader_on, deletes}
 use Rattle.tt_model.specs.Backups.{kind_done, row_of_set, set_edit, full_now, extended_now, with_set, backup_refusal}
 use Rattle.tt_model.specs.Sound.{IsSound}
 use Rattle.tt_model.specs.Checkpoint.{begin_checkpoint, copied, with_copies, with_all_copies, complete_where_due, completed, with_completion}
-use Rattle.tt_model.specs.Step.{Step, Answers, WantsMemory, line, unless_refused, forced_where, statement, made, made_in, number_for, no_number_for, no_place, no_system_place, edit_length, settled, is_durable, commit_of, rollback_of, rolled_back, rollback_lengths, end_length, system, system_done, open_at, given, closed, refused, kept_place, with_reader, backed_up, backup_place, backup_kind, checkpoint_open, no_checkpoint_number, least_open, begun_reply, completion_after}
+use Rattle.tt_model.specs.Step.{Step, Answers, WantsMemory, line, unless_refused, forced_where, statement, made, made_in, number_for, no_number_for, no_place, no_system_place, edit_length, settled, is_durable, commit_of, rollback_of, rolled_back, rollback_lengths, end_length, system, system_done, open_at, given, closed, refused, kept_place, with_reader, backed_up, backup_place, backup_kind, checkpoint_open, no_checkpoint_number, least_open, begun_reply, completion_after, no_skip, given_to, next_place_of}
 use Rattle.tt_model.specs.Run.{begun}
 use Rattle.tt_model.specs.WholeRuns.{Each, HasKeysOnce, HasValuesOnce, HeldOnce, HeldOnceStays}
 use Rattle.tt_model.proofs.OneHolderLemmas.{one_holder-Mark}
@@ -113,7 +114,7 @@ module _ (name : Held) where
   holds_given : (session : ℕ) (o : Option Reader) (n : ℕ) (s : State) → Holds s → Holds ((given session o n s).1)
   unfolding Holds
   holds_given session None n s one = one
-  holds_given session (Some r) n s one = one
+  holds_given session (Some r) n s one = holds_unless (no_skip (next_place_of r n s)) ((given_to session r n s).0) ((given_to session r n s).1) s one one
 
   holds_closed : (session : ℕ) (o : Option Reader) (s : State) → Holds s → Holds ((closed session o s).1)
   unfolding Holds

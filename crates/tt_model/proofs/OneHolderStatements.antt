@@ -22,7 +22,8 @@ use Rattle.tt_model.specs.Values.{same_values}
 use Rattle.tt_model.specs.Trail.{Trail}
 use Rattle.tt_model.specs.Holders.{Held, value_at, values_at, has_null, has_held, other_holder}
 use Rattle.tt_model.specs.Tables.{Table, Index, PlacedRow, rows_of, table_of, key_of, by_number, with_number_at, catalog_of, table_named, unique_of, column_named}
-use Rattle.tt_model.specs.State.{State, CellEdit, trail, cells_of, bound, catalog}
+use Rattle.tt_model.specs.State.{State, trail, cells_of, bound, catalog}
+use Rattle.tt_model.specs.declared.definition.CellEdit.{CellEdit}
 use Rattle.tt_model.specs.Meaning.{Makes, first_of, refused_if, makes, conflict, value_conflict, key_name, value_name, full, rows_seen, rows_taken, delete_row_refusal, cond_refusal, insert_refusal, inserted_row, insert_into, delete_from, update_in, update_rows, update_row_refusal, update_row_tests, set_refusal, sets_refusal, takes_literal, with_column, null_refusal, wide_refusal, range_refusal, row_refusal, key_there, value_there, no_room, source_column, names_no_column, takes_source, kind_named, set_values, with_values, with_row}
 use Rattle.tt_model.specs.Sound.{IsSound}
 use Rattle.tt_model.specs.Step.{number_for}
@@ -48,7 +49,7 @@ among_step p x y ys h (inr a) ih true e = inr (ih a)
 among_step p x y ys h (inl same) ih false e = absurd (both_ways (p y) e (ap p same ∙ h))
 among_step p x y ys h (inr a) ih false e = ih a
 
-among-filter : {X : Type 0} (p : X → Bool) (x : X) (xs : List X) → p x ≡ true → IsAmong x xs → IsAmong x (filter p xs)
+pub among-filter : {X : Type 0} (p : X → Bool) (x : X) (xs : List X) → p x ≡ true → IsAmong x xs → IsAmong x (filter p xs)
 among-filter p x [] h a = absurd a
 among-filter p x (y ∷ ys) h a = among_step p x y ys h a (among-filter p x ys h) (p y) refl
 
@@ -60,7 +61,7 @@ pub each-found : {X : Type 0} (P : X → Type 0) (p : X → Bool) (x : X) (xs : 
 each-found P p x [] e h = let no : ⊥ = cc in absurd no
 each-found P p x (y ∷ ys) e h = found_step P x y (find p ys) (e.0) (λ k. each-found P p x ys (e.1) k) (p y) h
 
-each-none : {X : Type 0} (f : X → Option Refusal) (xs : List X) → first_of (map f xs) ≡ None → Each (λ x. f x ≡ None) xs
+pub each-none : {X : Type 0} (f : X → Option Refusal) (xs : List X) → first_of (map f xs) ≡ None → Each (λ x. f x ≡ None) xs
 each-none f [] h = tt
 each-none f (x ∷ xs) h = let parts : (f x ≡ None) × (first_of (map f xs) ≡ None) = first_none (f x) (map f xs) h in (parts.0, each-none f xs (parts.1))
 
@@ -165,7 +166,7 @@ key_kept : (keys : List ℕ) (new : List (ℕ × Value)) (values : List Value) �
 key_kept keys [] values e = refl
 key_kept keys (p ∷ ps) values e = key_kept keys ps (slice_set values (p.0) (p.1)) (e.1) ∙ keys_kept keys (p.0) (p.1) values (e.0)
 
-or_none : (x y : Option Refusal) → option_or x y ≡ None → (x ≡ None) × (y ≡ None)
+pub or_none : (x y : Option Refusal) → option_or x y ≡ None → (x ≡ None) × (y ≡ None)
 or_none None y h = (refl, h)
 or_none (Some r) y h = let no : ⊥ = cc in absurd no
 
@@ -264,7 +265,7 @@ update-free name session s table sets cond (Some t) edits h f e m = update_free 
 
 -- ---- keys and unique values are safe
 
-same_parts : (name : Held) (table : ℕ) (columns : List ℕ) (values : List Value) → name.table ≡ table → name.columns ≡ columns → name.values ≡ values →
+pub same_parts : (name : Held) (table : ℕ) (columns : List ℕ) (values : List Value) → name.table ≡ table → name.columns ≡ columns → name.values ≡ values →
     name ≡ record { table = table; columns = columns; values = values }
 same_parts name table columns values e f g =
     ap (λ (x : ℕ). one x name.columns name.values) e ∙ (ap (λ (x : List ℕ). one table x name.values) f ∙ ap (one table columns) g)
@@ -272,7 +273,7 @@ same_parts name table columns values e f g =
     one : ℕ → List ℕ → List Value → Held
     one table columns values = record { table = table; columns = columns; values = values }
 
-equal_values : (xs ys : List Value) → same_values xs ys ≡ true → xs ≡ ys
+pub equal_values : (xs ys : List Value) → same_values xs ys ≡ true → xs ≡ ys
 equal_values xs ys h = (slice_eq-Decides same_value-Decides xs ys (same_values xs ys) refl).0 h
 
 -- The key columns of a table are those of its number.

@@ -9,7 +9,7 @@ use Rattle.tt_record.specs.declared.entry.Entry.{Entry}
 use Rattle.tt_record.specs.declared.entry.Entry.TheVariants.{Change, Commit, Abort, Mark, Switch}
 use Rattle.tt_record.specs.PlaceLaws.{end_behind}
 use Rattle.tt_model.specs.Trail.{Trail, Placed, IsOrdered, position_lt, position_le, position_eq, placed_end, placed_length, trail_end, before}
-use Rattle.tt_model.specs.Tables.{Catalog, Subscribed}
+use Rattle.tt_model.specs.Tables.{Subscribed, Catalog}
 use Rattle.tt_model.specs.State.{ReadPlace}
 use Rattle.tt_model.specs.Due.{DueChange, open_changes, counted, is_subscribed, marked, after_skip, due_of, due, next_hold, place_at, last_of, place_behind, read_to}
 use Rattle.tt_model.proofs.OrderLemmas.{le_lt, lt_le, lt-le, le_trans, le_self, lt-not_le_back, lt-not_eq_back, not_lt-le, le-not_lt_back}

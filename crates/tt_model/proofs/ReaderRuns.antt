@@ -18,13 +18,13 @@ use Rattle.tt_parse.specs.declared.command.Command.{Command}
 use Rattle.tt_parse.specs.declared.command.Command.TheVariants.{XlaOpen, XlaNext, XlaClose}
 use Rattle.tt_model.specs.Trail.{Trail, Placed, IsOrdered, position_le, placed_end, trail_end, oldest}
 use Rattle.tt_model.specs.Found.{Found}
-use Rattle.tt_model.specs.Tables.{Catalog, Subscribed, PlacedRow, subscriptions_of}
+use Rattle.tt_model.specs.Tables.{Subscribed, PlacedRow, subscriptions_of, Catalog}
 use Rattle.tt_model.specs.Due.{Done, DueChange, is_subscribed, is_last, name_in, marked, counted, after_skip, open_changes, due_of, due, read_to}
 use Rattle.tt_model.specs.State.{State, Reader, ReadPlace, Begun, at_one, trail, new_among, force_position, cells_of, bound, catalog}
 use Rattle.tt_model.specs.Sound.{IsSound}
 use Rattle.tt_model.specs.System.{bookmark, reader_on}
 use Rattle.tt_model.specs.Checkpoint.{copied, with_copies}
-use Rattle.tt_model.specs.Step.{Step, Answered, Answers, WantsMemory, answer, line, given, closed, opened, open_at, refused, unless_refused, with_reader, kept_place, all_due, next_place_of}
+use Rattle.tt_model.specs.Step.{Step, Answered, Answers, WantsMemory, answer, line, given, closed, opened, open_at, refused, unless_refused, with_reader, kept_place, all_due, next_place_of, no_skip, given_to}
 use Rattle.tt_model.specs.Run.{Line}
 use Rattle.tt_model.specs.WholeRuns.{IsInOrder, updates_in, is_read, given_by, all_given, IsReading, RunReading, due_from, ReadersGoInOrder}
 use Rattle.tt_model.proofs.OrderLemmas.{le_trans, lt-le, le_self}
@@ -297,18 +297,19 @@ flip a b n = false_from_ne_true (nat_eq b a) (λ y. both_ways (nat_eq a b) n (eq
 elsewhere : (session other : ℕ) (x : Option Reader) (readers : ℕ → Option Reader) → nat_eq session other ≡ false → at_one other x readers session ≡ readers session
 elsewhere session other x readers n = ap (λ c. cond c x (readers session)) n
 
--- a read: of the session, or of another one
-read_does : (session who n : ℕ) (s : State) (r now : Reader) (o : Option Reader) → s.reader who ≡ o → s.reader session ≡ Some r → ((given who o n s).1).reader session ≡ Some now → (c : Bool) → nat_eq who session ≡ c →
-    Does session (record { session = who; what = Ok (XlaNext n) }) ((given who o n s).0) s r now
-read_does session who n s r now None e h k false d =
-    left session _ _ s r now s.reader s.reader (ap (λ b. cond (b && true) [] []) d) h k refl
-read_does session who n s r now None e h k true d =
-    let no : None ≡ Some r = sym e ∙ (ap s.reader (eqb-true who session d) ∙ h) in let absurdity : ⊥ = cc in absurd absurdity
-read_does session who n s r now (Some x) e h k false d =
-    left session _ _ s r now s.reader (((given who (Some x) n s).1).reader)
+-- a refused read gives nothing
+nothing : (c : Bool) → ◌≡◌ {A = List Update} (cond (c && true) [] []) []
+nothing true = refl
+nothing false = refl
+
+-- a read: of the session, or of another one, or refused
+given_does : (session who n : ℕ) (s : State) (r now x : Reader) → s.reader who ≡ Some x → s.reader session ≡ Some r → ((given_to who x n s).1).reader session ≡ Some now → (c : Bool) → nat_eq who session ≡ c →
+    Does session (record { session = who; what = Ok (XlaNext n) }) ((given_to who x n s).0) s r now
+given_does session who n s r now x e h k false d =
+    left session _ _ s r now s.reader (((given_to who x n s).1).reader)
     (ap (λ b. cond (b && true) (map (λ (u : DueChange). u.given) (take n (all_due x s))) []) d) h k
     (elsewhere session who (Some (record x { place = next_place_of x n s })) s.reader (flip who session d))
-read_does session who n s r now (Some x) e h k true d =
+given_does session who n s r now x e h k true d =
     let mine : x ≡ r = some_reader x r (sym e ∙ (ap s.reader (eqb-true who session d) ∙ h)) in
     let there : Some (record x { place = next_place_of x n s }) ≡ Some now
     = sym (ap (λ c. cond c (Some (record x { place = next_place_of x n s })) (s.reader session)) (eq-eqb session who (sym (eqb-true who session d)))) ∙ k in
@@ -317,6 +318,16 @@ read_does session who n s r now (Some x) e h k true d =
       gave = ap (λ b. cond (b && true) (map (λ (u : DueChange). u.given) (take n (all_due x s))) []) d ∙ ap (λ (y : Reader). map (λ (u : DueChange). u.given) (take n (all_due y s))) mine;
       place = ap (λ (y : Reader). y.place) (sym (some_reader (record x { place = next_place_of x n s }) now there)) ∙ ap (λ (y : Reader). next_place_of y n s) mine;
     })
+
+unless_does : (session who n : ℕ) (s : State) (r now x : Reader) (o : Option Refusal) → s.reader who ≡ Some x → s.reader session ≡ Some r → ((unless_refused o (given_to who x n s) s).1).reader session ≡ Some now
+    → Does session (record { session = who; what = Ok (XlaNext n) }) ((unless_refused o (given_to who x n s) s).0) s r now
+unless_does session who n s r now x None e h k = given_does session who n s r now x e h k (nat_eq who session) refl
+unless_does session who n s r now x (Some refusal) e h k = left session _ _ s r now s.reader s.reader (nothing (nat_eq who session)) h k refl
+
+read_does : (session who n : ℕ) (s : State) (r now : Reader) (o : Option Reader) → s.reader who ≡ o → s.reader session ≡ Some r → ((given who o n s).1).reader session ≡ Some now →
+    Does session (record { session = who; what = Ok (XlaNext n) }) ((given who o n s).0) s r now
+read_does session who n s r now None e h k = left session _ _ s r now s.reader s.reader (nothing (nat_eq who session)) h k refl
+read_does session who n s r now (Some x) e h k = unless_does session who n s r now x (no_skip (next_place_of x n s)) e h k
 
 -- an open: of the session, which has a reader, it is refused
 open_leaves : (session who : ℕ) (name : List ℕ) (s : State) (o : Option PlacedRow) → nat_eq session who ≡ false → ((open_at who name o s).1).reader session ≡ s.reader session
@@ -348,7 +359,7 @@ closed_leaves session who s now (Some x) k false e = elsewhere session who None 
 command_does : (session who : ℕ) (command : Command) (s : State) (r now : Reader) → s.reader session ≡ Some r → ((line who command s).1).reader session ≡ Some now →
     Does session (record { session = who; what = Ok command }) ((line who command s).0) s r now
 unfolding line
-command_does session who (XlaNext n) s r now h k = read_does session who n s r now (s.reader who) refl h k (nat_eq who session) refl
+command_does session who (XlaNext n) s r now h k = read_does session who n s r now (s.reader who) refl h k
 command_does session who (XlaOpen name) s r now h k =
     left session _ _ s r now s.reader (((opened who name s).1).reader) (no_second (nat_eq who session) _) h k (opened_leaves session who name s r h (nat_eq session who) refl)
 command_does session who XlaClose s r now h k =
@@ -506,7 +517,11 @@ updates_same us vs h = ap updates_in h
 
 read_gave : (session n : ℕ) (us : List Update) (s : State) (r : Reader) (o : Option Reader) → o ≡ Some r → Updates us ≡ (given session o n s).0 → us ≡ gifts (take n (all_due r s))
 read_gave session n us s r None e h = let no : ⊥ = cc in absurd no
-read_gave session n us s r (Some x) e h = updates_same us _ h ∙ ap (λ (y : Reader). gifts (take n (all_due y s))) (some_reader x r e)
+read_gave session n us s r (Some x) e h = by (no_skip (next_place_of x n s)) h
+  where
+    by : (o : Option Refusal) → Updates us ≡ (unless_refused o (given_to session x n s) s).0 → us ≡ gifts (take n (all_due r s))
+    by None h = updates_same us _ h ∙ ap (λ (y : Reader). gifts (take n (all_due y s))) (some_reader x r e)
+    by (Some refusal) h = let no : ⊥ = cc in absurd no
 
 count-gifts : (ds : List DueChange) → length (gifts ds) ≡ length ds
 count-gifts [] = refl

@@ -50,7 +50,7 @@ in_cell_same table u row found true e h =
     cc
 in_cell_same table u row found false e h = let no : ⊥ = cc in absurd no
 
-in_cell : (table : ℕ) (c : Cell) (row : Row) → row_in table c ≡ Some row → c ≡ Full table row
+pub in_cell : (table : ℕ) (c : Cell) (row : Row) → row_in table c ≡ Some row → c ≡ Full table row
 in_cell table Empty row h = let no : ⊥ = cc in absurd no
 in_cell table (Full u found) row h = in_cell_same table u row found (nat_eq table u) refl h
 

@@ -1,9 +1,13 @@
 -- The trail goes on over rounds, runs and their end.
-use Rattle.std.proofs.Common.{◌≡◌, ◌++◌, ◌≤◌, length, inl, inr, ◌+◌, ◌-◌, drop, sym, subst, ap, ◌∙◌, arith, length-append, length-drop, drop-drop, ℕ, Bool, true, false, List, [], ◌∷◌, None, refl}
+use Rattle.std.proofs.Common.{◌≡◌, ◌++◌, ◌≤◌, length, inl, inr, ◌+◌, ◌-◌, drop, sym, subst, ap, ◌∙◌, arith, length-append, length-drop, drop-drop, ℕ, Bool, true, false, List, [], ◌∷◌, Option, Some, None, Result, refl}
 use Rattle.tt_value.specs.declared.reply.Reply.{Reply}
 use Rattle.tt_record.specs.declared.entry.Entry.TheVariants.{Change, Abort}
-use Rattle.tt_model.specs.State.{State, trail, CellEdit, live_in, place_for, with_edit, with_edits, reversals}
-use Rattle.tt_model.specs.Step.{rolled_back}
+use Rattle.tt_model.specs.State.{State, trail, live_in, place_for, with_edit, with_edits, reversals}
+use Rattle.tt_model.specs.declared.definition.CellEdit.{CellEdit}
+use Rattle.tt_value.specs.declared.refusal.Refusal.{Refusal}
+use Rattle.tt_parse.specs.declared.command.Command.{Command}
+use Rattle.tt_model.specs.Checkpoint.{with_copies}
+use Rattle.tt_model.specs.Step.{Step, rolled_back}
 use Rattle.tt_model.specs.Run.{WasToLeave, Line, Run, has_place, ended_one, roll_all, ended}
 use Rattle.tt_model.specs.Trail.{Trail, oldest}
 use Rattle.tt_model.specs.Found.{Found}
@@ -11,7 +15,7 @@ use Rattle.tt_model.specs.Prefix.{StandsForFirst}
 use Rattle.tt_model.specs.Sound.{IsSound}
 use Rattle.tt_model.specs.WholeRuns.{GoesOn, TrailsGoOn, ForcedEntriesAreFound}
 use Rattle.tt_model.proofs.BookmarkLines.{bookmarks_stay}
-use Rattle.tt_model.proofs.GrowLemmas.{Grows, assoc, grows-same, grows-then, grows-with_entry, grows-all_forced, grows-beside, grows-step}
+use Rattle.tt_model.proofs.GrowLemmas.{Grows, assoc, grows-same, grows-then, grows-with_entry, grows-all_forced, grows-answers, grows-beside, grows-step, grows-with_copies}
 
 goes_on : (s after : State) → Grows s after → GoesOn s after
 goes_on s after g = record { found = g.found; newer = g.newer; entries = g.entries; forced = λ h. (g.forced h).0 }
@@ -81,10 +85,26 @@ oldest_twice k n xs fewer few =
 same_goes_on : (s : State) → GoesOn s s
 same_goes_on s = goes_on s s (grows-same s)
 
-last_goes_on : (end : State → State) (s last : State) → ((x : State) → GoesOn x (end x)) → WasToLeave end s last → GoesOn s last
-last_goes_on end s last on (inl is) = subst (GoesOn s) (sym is) (same_goes_on s)
-last_goes_on end s last on (inr (inl (l, reply, step))) = goes_on s last (grows-step s l.session l.what reply last step)
-last_goes_on end s last on (inr (inr is)) = subst (GoesOn s) (sym is) (on s)
+last_goes_on : (end : State → State) (rest : List Line) (given : Option Reply) (s last : State) (least : ℕ) → ((x : State) → GoesOn x (end x)) → WasToLeave end rest given s last least → GoesOn s last
+last_goes_on end rest given s last least on (inl is) = subst (GoesOn s) (sym (is.0)) (same_goes_on s)
+last_goes_on end [] given s last least on (inr (inl stopped)) = absurd stopped
+last_goes_on end (l ∷ rest) None s last least on (inr (inl ((reply, step), is))) = goes_on s last (grows-step s l.session l.what reply last step)
+last_goes_on end (l ∷ rest) (Some reply) s last least on (inr (inl (step, is))) = goes_on s last (grows-step s l.session l.what reply last step)
+last_goes_on end rest given s last least on (inr (inr is)) = subst (GoesOn s) (sym (is.2)) (on s)
+
+-- no less is forced behind a line than before it
+between_forced : (s : State) (session : ℕ) (what : Result Command Refusal) (reply : Reply) (last : State) → s.forced ≤ length (trail s) → (round : Step s session what reply last) → s.forced ≤ (round.between).forced
+between_forced s session what reply last few round =
+    let g : Grows s round.between = grows-then s (with_copies s) round.between (grows-with_copies s) (grows-answers session what (with_copies s) reply round.between round.line) in
+    (g.forced few).0
+
+-- at least that is found
+least_forced : (end : State → State) (rest : List Line) (given : Option Reply) (s last : State) (least : ℕ) → s.forced ≤ length (trail s) → WasToLeave end rest given s last least → s.forced ≤ least
+least_forced end rest given s last least few (inl is) = omega (arith, is.2)
+least_forced end [] given s last least few (inr (inl stopped)) = absurd stopped
+least_forced end (l ∷ rest) None s last least few (inr (inl (round, is))) = omega (arith, is)
+least_forced end (l ∷ rest) (Some reply) s last least few (inr (inl (round, is))) = omega (arith, is, between_forced s l.session l.what reply last few round)
+least_forced end rest given s last least few (inr (inr is)) = omega (arith, is.3)
 
 -- the trail of a state that goes on has the former one behind its newer entries
 trail_behind : (s last : State) (g : GoesOn s last) → trail last ≡ g.newer ++ trail s
@@ -94,16 +114,19 @@ trail_behind s last g =
     ∙ assoc g.newer s.entries s.found.entries)
 
 pub forced_entries_are_found : ForcedEntriesAreFound
-forced_entries_are_found end begin lines replies f run on sound readers sessions =
+forced_entries_are_found end begin lines replies rest given f run on sound readers sessions =
     let s : State = run.state in
     let last : State = run.last in
-    let g : GoesOn s last = last_goes_on end s last on run.act in
+    let g : GoesOn s last = last_goes_on end rest given s last run.least on run.act in
     let whole : IsSound s = (bookmarks_stay.run lines replies begin s sessions sound readers run.run).0 in
     let few : s.forced ≤ length (trail s) = (whole.entries).forced_most in
     let n : ℕ = run.found.0 in
+    let least : s.forced ≤ run.least = least_forced end rest given s last run.least few run.act in
     let first : StandsForFirst n last f = run.found.2 in (
       n,
       first,
-      oldest_twice s.forced n (trail last) (run.found.1) first.most
+      least,
+      run.found.1,
+      oldest_twice s.forced n (trail last) (omega (arith, least, run.found.1)) first.most
           ∙ (ap (oldest s.forced) (trail_behind s last g) ∙ oldest_behind s.forced g.newer (trail s) few),
     )

@@ -90,7 +90,7 @@ used-Abort t q all cells at h = elim (or_cases (is_full (cells q)) (list_any (to
   | inr y ↦ or_right (is_full (cells q)) (list_any (touchers q all) (live all)) (fewer (touchers q all) (λ u. not (nat_eq t u)) (live all) y)
 ]
 
-in_page : (p pages : ℕ) → p < 32 * max (suc (p / 32)) pages
+pub in_page : (p pages : ℕ) → p < 32 * max (suc (p / 32)) pages
 in_page p pages = let h : p < 32 * (p / 32 + 1) = lt-mul-div-succ p (lit< tt) in omega (arith, h)
 
 used_now : (p q pages : ℕ) (c : Bool) → nat_eq q p ≡ c → (u : Bool) → (u ≡ true → q < 32 * pages) → (c || u) ≡ true → q < 32 * max (suc (p / 32)) pages

@@ -8,7 +8,8 @@ use Rattle.tt_model.specs.Trail.{Trail}
 use Rattle.tt_model.specs.Live.{live, is_live}
 use Rattle.tt_model.specs.Steady.{MayAbort, IsGrown}
 use Rattle.tt_model.specs.Found.{Found}
-use Rattle.tt_model.specs.State.{State, CellEdit, Begun, trail, next, at_one, with_entry, with_edit, with_edits, all_forced, reversals, place_for}
+use Rattle.tt_model.specs.State.{State, Begun, trail, next, at_one, with_entry, with_edit, with_edits, all_forced, reversals, place_for}
+use Rattle.tt_model.specs.declared.definition.CellEdit.{CellEdit}
 use Rattle.tt_model.specs.Sound.{IsOwned, KeepsCatalog, IsSound, MayWrite, MayEdit}
 use Rattle.tt_model.specs.Checkpoint.{begin_checkpoint, copied, with_copies, with_all_copies, complete_where_due, completed, with_completion}
 use Rattle.tt_model.specs.Step.{number_for, made_in, settled, rolled_back, system_done, forced_where, completion_after}

@@ -18,7 +18,8 @@ use Rattle.tt_model.specs.Holders.{other_holder, has_held}
 use Rattle.tt_model.specs.Tables.{Table, PlacedRow, table_named, table_of, rows_of, by_number, number_at, catalog_of}
 use Rattle.tt_model.specs.Conditions.{takes}
 use Rattle.tt_model.specs.Meaning.{Meant, Makes, unless, first_of, makes, unless_row, and_edit, conflict, key_name, full, rows_seen, rows_taken, key_order, delete_row_refusal, cond_refusal, update_row_refusal, update_row_tests, update_rows, set_values, with_values, with_row, sets_refusal, insert_refusal, inserted_row, insert_into, delete_from, update_in, meant_by_insert, meant_by_update, meant_by_delete}
-use Rattle.tt_model.specs.State.{State, CellEdit, trail, view, cells_of, bound, catalog}
+use Rattle.tt_model.specs.State.{State, trail, view, cells_of, bound, catalog}
+use Rattle.tt_model.specs.declared.definition.CellEdit.{CellEdit}
 use Rattle.tt_model.specs.Steady.{MayChange}
 use Rattle.tt_model.specs.Sound.{whole_table, IsUserTable, IsSound, MayEdit}
 use Rattle.tt_model.specs.Step.{number_for}
@@ -99,7 +100,7 @@ made-seen session s t (r ∷ rows) (e ∷ edits) h l k m = (
 made-seen session s t [] (e ∷ edits) h l k m = absurd m
 made-seen session s t (r ∷ rows) [] h l k m = absurd m
 
-taken_rows : (session : ℕ) (s : State) (cond : Option Cond) (t : Table) → AreRows t.id (view session s) (rows_taken cond t (rows_seen session s t))
+pub taken_rows : (session : ℕ) (s : State) (cond : Option Cond) (t : Table) → AreRows t.id (view session s) (rows_taken cond t (rows_seen session s t))
 taken_rows session s cond t =
     are_rows-in_order t.id (view session s) (key_order t) (filter (λ (r : PlacedRow). takes cond t (r.1)) (rows_seen session s t))
     (are_rows-filter t.id (view session s) (λ (r : PlacedRow). takes cond t (r.1)) (rows_seen session s t) (are_rows-rows_of t.id (bound s) (view session s)))
@@ -220,7 +221,7 @@ insert-MayEdit session s name values edits h m =
 
 -- ---- statements change users' tables
 
-some_table : (u t : Table) → Some u ≡ Some t → u ≡ t
+pub some_table : (u t : Table) → Some u ≡ Some t → u ≡ t
 some_table u t h = ap (λ o. unwrap_or o u) h
 
 both_false : (x y : Bool) → x ≡ false → y ≡ false → (x || y) ≡ false

@@ -15,7 +15,7 @@ use Rattle.tt_model.specs.Sets.{SetStanding}
 use Rattle.tt_model.specs.State.{State, with_entry}
 use Rattle.tt_model.specs.Checkpoint.{with_copies}
 use Rattle.tt_model.specs.Step.{Step, Answers, WantsMemory, answer, line, stepped, takes_memory, completion_after}
-use Rattle.tt_model.specs.Sound.{IsUserTable, IsSound, HasItsBookmark}
+use Rattle.tt_model.specs.Sound.{IsUserTable, IsSound}
 use Rattle.tt_model.specs.Run.{opened, begun}
 use Rattle.tt_model.proofs.AppendLemmas.{forced_for-most, forced_for-least}
 use Rattle.tt_model.proofs.PositionLemmas.{next_place-onward}
@@ -34,39 +34,39 @@ use Rattle.tt_model.specs.Step.{checkpoint_open, no_checkpoint_number, least_ope
 use Rattle.tt_model.proofs.SoundLines.{sound-begin_checkpoint, sound-with_all_copies, sound-with_completion}
 
 -- Each line.
-pub sound-line : (session : ℕ) (command : Command) (s : State) → HasItsBookmark session (Ok command) s → IsSound s → IsSound ((line session command s).1)
+pub sound-line : (session : ℕ) (command : Command) (s : State) → IsSound s → IsSound ((line session command s).1)
 unfolding line
-sound-line session (Insert table values) s n h = sound-statement session (meant_by_insert session s table values) s h (λ edits m. (insert-users session s table values edits h m, insert-MayEdit session s table values edits h m))
-sound-line session (Update table sets cond) s n h = sound-statement session (meant_by_update session s table sets cond) s h (λ edits m. (update-users session s table sets cond edits h m, update-MayEdit session s table sets cond edits h m))
-sound-line session (Delete table cond) s n h = sound-statement session (meant_by_delete session s table cond) s h (λ edits m. (delete-users session s table cond edits h m, delete-MayEdit session s table cond edits h m))
-sound-line session (Select table items cond order) s n h = sound-select session s table items cond order h
-sound-line session CommitLine s n h = sound-commit_of session (s.own session) s h refl
-sound-line session Rollback s n h = sound-rollback_of session (s.own session) s h refl
-sound-line session DurableCommit s n h = record { entries = h.entries; owned = h.owned; catalog = h.catalog }
-sound-line session Flush s n h = sound-all_forced s h
-sound-line session LogHolds s n h = h
-sound-line session Bookmark s n h = h
-sound-line session (CreateTable name columns key) s n h = sound-system_new _ s h (λ edits m. create_table-new session s name columns key edits m)
-sound-line session (CreateIndex name table columns unique) s n h = sound-system_new _ s h (λ edits m. create_index_new session s name table columns unique edits m)
-sound-line session (XlaCreate name) s n h = sound-system_new _ s h (λ edits m. create_bookmark-new session s name edits m)
-sound-line session (XlaSubscribe table name) s n h = sound-system_new _ s h (λ edits m. subscribe_new session s table name edits m)
-sound-line session (XlaOpen name) s n h = sound_opened_if session name s (is_some (s.reader session)) h
-sound-line session (XlaNext count) s n h = sound-given session (s.reader session) count s h
-sound-line session XlaClose s n h = sound-closed session (s.reader session) s h
-sound-line session (BackupLine set kind) s n h = sound-backup_kind session set (kind_done kind set s) s h
-sound-line session Ckpt s n h = sound-unless (option_or (checkpoint_open s) (no_checkpoint_number s)) _ _ s h (sound-begin_checkpoint s h)
-sound-line session CkptBlocking s n h =
+sound-line session (Insert table values) s h = sound-statement session (meant_by_insert session s table values) s h (λ edits m. (insert-users session s table values edits h m, insert-MayEdit session s table values edits h m))
+sound-line session (Update table sets cond) s h = sound-statement session (meant_by_update session s table sets cond) s h (λ edits m. (update-users session s table sets cond edits h m, update-MayEdit session s table sets cond edits h m))
+sound-line session (Delete table cond) s h = sound-statement session (meant_by_delete session s table cond) s h (λ edits m. (delete-users session s table cond edits h m, delete-MayEdit session s table cond edits h m))
+sound-line session (Select table items cond order) s h = sound-select session s table items cond order h
+sound-line session CommitLine s h = sound-commit_of session (s.own session) s h refl
+sound-line session Rollback s h = sound-rollback_of session (s.own session) s h refl
+sound-line session DurableCommit s h = record { entries = h.entries; owned = h.owned; catalog = h.catalog }
+sound-line session Flush s h = sound-all_forced s h
+sound-line session LogHolds s h = h
+sound-line session Bookmark s h = h
+sound-line session (CreateTable name columns key) s h = sound-system_new _ s h (λ edits m. create_table-new session s name columns key edits m)
+sound-line session (CreateIndex name table columns unique) s h = sound-system_new _ s h (λ edits m. create_index_new session s name table columns unique edits m)
+sound-line session (XlaCreate name) s h = sound-system_new _ s h (λ edits m. create_bookmark-new session s name edits m)
+sound-line session (XlaSubscribe table name) s h = sound-system_new _ s h (λ edits m. subscribe_new session s table name edits m)
+sound-line session (XlaOpen name) s h = sound_opened_if session name s (is_some (s.reader session)) h
+sound-line session (XlaNext count) s h = sound-given session (s.reader session) count s h
+sound-line session XlaClose s h = sound-closed session (s.reader session) s h
+sound-line session (BackupLine set kind) s h = sound-backup_kind session set (kind_done kind set s) s h
+sound-line session Ckpt s h = sound-unless (option_or (checkpoint_open s) (no_checkpoint_number s)) _ _ s h (sound-begin_checkpoint s h)
+sound-line session CkptBlocking s h =
     sound-unless (option_or (checkpoint_open s) (option_or (least_open (live_in s)) (no_checkpoint_number s))) _ _ s h
     (sound-with_completion (with_all_copies (begin_checkpoint s)) (sound-with_all_copies (begin_checkpoint s) (sound-begin_checkpoint s h)))
-sound-line session (DropTable name) s n h = sound-system_rows _ s h (λ edits m. drop_table-good session s name edits m)
-sound-line session (DropIndex name) s n h = sound-system_rows _ s h (λ edits m. drop_index-good session s name edits m)
-sound-line session (XlaDelete name) s n h = sound-system_rows _ s h (λ edits m. delete_bookmark-good session s name edits m)
-sound-line session (XlaUnsubscribe table name) s n h = sound-system_rows _ s h (λ edits m. unsubscribe-good session s table name edits m)
-sound-line session XlaAcknowledge s n h = sound-system_rows _ s h (λ edits m. acknowledge-good session s edits n m)
+sound-line session (DropTable name) s h = sound-system_rows _ s h (λ edits m. drop_table-good session s name edits m)
+sound-line session (DropIndex name) s h = sound-system_rows _ s h (λ edits m. drop_index-good session s name edits m)
+sound-line session (XlaDelete name) s h = sound-system_rows _ s h (λ edits m. delete_bookmark-good session s name edits m)
+sound-line session (XlaUnsubscribe table name) s h = sound-system_rows _ s h (λ edits m. unsubscribe-good session s table name edits m)
+sound-line session XlaAcknowledge s h = sound-system_rows _ s h (λ edits m. acknowledge-good session s edits m)
 
-sound-answer : (session : ℕ) (what : Result Command Refusal) (s : State) → HasItsBookmark session what s → IsSound s → IsSound ((answer session what s).1)
-sound-answer session (Ok command) s n h = sound-line session command s n h
-sound-answer session (Err r) s n h = h
+sound-answer : (session : ℕ) (what : Result Command Refusal) (s : State) → IsSound s → IsSound ((answer session what s).1)
+sound-answer session (Ok command) s h = sound-line session command s h
+sound-answer session (Err r) s h = h
 
 sound-memory : (session : ℕ) (what : Result Command Refusal) (s : State) (reply : Reply) (after : State) → IsSound s → WantsMemory session what s reply after → IsSound after
 sound-memory session (Err r) s reply after h w = absurd w
@@ -75,15 +75,15 @@ sound-memory session (Ok command) s reply after h w = elim (w.2) [
   | inr forced ↦ subst IsSound (sym (forced.1)) (sound-all_forced s h)
 ]
 
-sound-answers : (session : ℕ) (what : Result Command Refusal) (s : State) (reply : Reply) (after : State) → HasItsBookmark session what s → IsSound s → Answers session what s reply after → IsSound after
-sound-answers session what s reply after n h (inl by_table) = subst IsSound (sym (by_table.1)) (sound-answer session what s n h)
-sound-answers session what s reply after n h (inr wants) = sound-memory session what s reply after h wants
+sound-answers : (session : ℕ) (what : Result Command Refusal) (s : State) (reply : Reply) (after : State) → IsSound s → Answers session what s reply after → IsSound after
+sound-answers session what s reply after h (inl by_table) = subst IsSound (sym (by_table.1)) (sound-answer session what s h)
+sound-answers session what s reply after h (inr wants) = sound-memory session what s reply after h wants
 
 -- A round leads from a sound state to a sound one.
-pub sound-step : (s : State) (session : ℕ) (what : Result Command Refusal) (reply : Reply) (after : State) → HasItsBookmark session what (with_copies s) → IsSound s → Step s session what reply after → IsSound after
-sound-step s session what reply after n h st =
+pub sound-step : (s : State) (session : ℕ) (what : Result Command Refusal) (reply : Reply) (after : State) → IsSound s → Step s session what reply after → IsSound after
+sound-step s session what reply after h st =
     subst IsSound (sym st.is)
-    (sound-completion_after s.underway st.between (sound-answers session what (with_copies s) reply st.between n (sound-with_copies s h) st.line))
+    (sound-completion_after s.underway st.between (sound-answers session what (with_copies s) reply st.between (sound-with_copies s h) st.line))
 
 -- A run begins sound.
 pub sound-begun : (settings : Settings) (found : Found) (files : ℕ → Bool) (sets : ℕ → Option SetStanding) →

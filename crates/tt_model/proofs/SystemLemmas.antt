@@ -11,7 +11,8 @@ use Rattle.tt_model.specs.Live.{live, is_live, touched}
 use Rattle.tt_model.specs.Holders.{is_held_by, has_held, other_holder}
 use Rattle.tt_model.specs.Tables.{PlacedRow}
 use Rattle.tt_model.specs.System.{deletes}
-use Rattle.tt_model.specs.State.{State, CellEdit, next, cells_of}
+use Rattle.tt_model.specs.State.{State, next, cells_of}
+use Rattle.tt_model.specs.declared.definition.CellEdit.{CellEdit}
 use Rattle.tt_model.specs.Steady.{MayChange}
 use Rattle.tt_model.specs.Sound.{whole_table, IsSound, MayEdit}
 use Rattle.tt_model.proofs.ConflictLemmas.{seen_row-none}
@@ -110,7 +111,7 @@ deletes-leave table (r ∷ rows) = (not_held_user Empty refl, deletes-leave tabl
 abbrev pub AreBelow : ℕ → Cells → List CellEdit → Type 0
 AreBelow table cells edits = (p : ℕ) → has_edit p edits ≡ true → (u : ℕ) × (u < table) × (row : Row) × (cells p ≡ Full u row)
 
-deleted_in : (table p : ℕ) (cells : Cells) (rows : List PlacedRow) → LieIn table cells rows → has_edit p (map (deletes table) rows) ≡ true → (row : Row) × (cells p ≡ Full table row)
+pub deleted_in : (table p : ℕ) (cells : Cells) (rows : List PlacedRow) → LieIn table cells rows → has_edit p (map (deletes table) rows) ≡ true → (row : Row) × (cells p ≡ Full table row)
 deleted_in table p cells [] l h = absurd (true≢false (sym h))
 deleted_in table p cells (r ∷ rows) l h = elim (or_cases (nat_eq (r.0) p) (has_edit p (map (deletes table) rows)) h) [
   | inl y ↦ (r.1, ap cells (sym (eqb-true (r.0) p y)) ∙ l.0)

@@ -15,10 +15,11 @@ use Rattle.tt_parse.specs.declared.command.BackupKind.{BackupKind}
 use Rattle.tt_parse.specs.declared.command.BackupKind.TheVariants.{Full, FullEnable, Incremental, IncrOrFull, Stop}
 use Rattle.tt_model.specs.Tables.{Table, Index, PlacedRow, in_order, inserted, by_number, by_text, with_number_at, with_text_at, number_at, text_at, table_named, index_named, table_of, index_of, catalog_of}
 use Rattle.tt_model.specs.Meaning.{Meant, Makes, Refuses, Gives, unless, first_of, refused_if}
-use Rattle.tt_model.specs.System.{system_rows, in_transaction, deletes, rewrites, bookmark, bookmark_values, subscription, delete_bookmark, unsubscribe, acknowledged, acknowledge, drop_table, drop_index, meant_by_delete_bookmark, meant_by_unsubscribe, meant_by_acknowledge, meant_by_drop_table, meant_by_drop_index}
+use Rattle.tt_model.specs.System.{system_rows, in_transaction, deletes, rewrites, bookmark, bookmark_values, subscription, delete_bookmark, unsubscribe, acknowledge, acknowledge_in, drop_table, drop_index, meant_by_delete_bookmark, meant_by_unsubscribe, meant_by_acknowledge, meant_by_drop_table, meant_by_drop_index}
 use Rattle.tt_model.specs.Backups.{row_of_set, set_edit, full_now, extended_now, with_set, backup_refusal}
 use Rattle.tt_model.specs.Sets.{Sound, SetStanding}
-use Rattle.tt_model.specs.State.{State, CellEdit, Reader, next, cells_of, bound, catalog, write_position, all_forced}
+use Rattle.tt_model.specs.State.{State, Reader, next, cells_of, bound, catalog, write_position, all_forced}
+use Rattle.tt_model.specs.declared.definition.CellEdit.{CellEdit}
 use Rattle.tt_model.specs.Sound.{IsSound}
 use Rattle.tt_model.specs.Step.{system, system_done, no_system_place, backup_place, backup_kind}
 use Rattle.tt_model.proofs.SoundLines.{sound-all_forced, sound-system_done}
@@ -36,7 +37,7 @@ pub record AreGood (s : State) (edits : List CellEdit) : Type 0 where
   pub apart : AreApart edits
   pub leave : LeaveUserTables edits
 
-sound-good : (edits : List CellEdit) (s : State) → IsSound s → AreGood s edits → IsSound (system_done edits s)
+pub sound-good : (edits : List CellEdit) (s : State) → IsSound s → AreGood s edits → IsSound (system_done edits s)
 sound-good [] s h g = absurd g.some
 sound-good (e ∷ es) s h g = sound-system_done e es s h g.leave (of_rows-MayEdit s (e ∷ es) h g.of_rows g.apart)
 
@@ -51,7 +52,7 @@ good_or_refused s o es edits g h = subst (AreGood s) (makes_same es edits ((unle
 pub refuses_none : (o : Option Refusal) (r : Refusal) (edits : List CellEdit) → unless o (Refuses r) ≡ Makes edits → ⊥
 refuses_none o r edits h = let made : Refuses r ≡ Makes edits = (unless-makes o (Refuses r) edits h).1 in cc
 
-not_refused : (b : Bool) (r : Refusal) → refused_if b r ≡ None → b ≡ false
+pub not_refused : (b : Bool) (r : Refusal) → refused_if b r ≡ None → b ≡ false
 not_refused true r h = let no : ⊥ = cc in absurd no
 not_refused false r h = refl
 
@@ -60,14 +61,14 @@ not_refused false r h = refl
 pub rows-good : (s : State) (table : ℕ) (rows : List PlacedRow) → table < 16 → AreRows table (cells_of s) rows → AreSome (map (deletes table) rows) → AreGood s (map (deletes table) rows)
 rows-good s table rows low r some = record { some = some; of_rows = deletes-of_rows s table rows low r.lie; apart = deletes-apart table rows r.apart; leave = deletes-leave table rows }
 
-are_system_rows : (table : ℕ) (s : State) → AreRows table (cells_of s) (system_rows table s)
+pub are_system_rows : (table : ℕ) (s : State) → AreRows table (cells_of s) (system_rows table s)
 are_system_rows table s = are_rows-rows_of table (bound s) (cells_of s)
 
 some_rows : (table : ℕ) (rows : List PlacedRow) → (length rows == 0) ≡ false → AreSome (map (deletes table) rows)
 some_rows table [] h = absurd (true≢false h)
 some_rows table (r ∷ rows) h = tt
 
-subscription-rows : (name : List ℕ) (table : ℕ) (s : State) → AreRows 5 (cells_of s) (subscription name table s)
+pub subscription-rows : (name : List ℕ) (table : ℕ) (s : State) → AreRows 5 (cells_of s) (subscription name table s)
 subscription-rows name table s =
     are_rows-filter 5 (cells_of s) (λ r. number_at 1 r == table) (with_text_at 0 name (system_rows 5 s))
     (are_rows-filter 5 (cells_of s) (λ r. bytes_eq (text_at 0 r) name) (system_rows 5 s) (are_system_rows 5 s))
@@ -135,20 +136,20 @@ rewrite-good s table r values low l u = record {
   leave = u;
 }
 
-acknowledged_good : (s : State) (r : Reader) (o : Option PlacedRow) → bookmark r.bookmark s ≡ o → is_some o ≡ true → AreGood s (acknowledged o r)
-acknowledged_good s r None e there = absurd (true≢false (sym there))
-acknowledged_good s r (Some at) e there = rewrite-good s 4 at (bookmark_values r.bookmark r.place) (lit< tt) (bookmark-lies r.bookmark s at e) (not_held_user _ refl, tt)
+acknowledge_good : (session : ℕ) (s : State) (r : Reader) (o : Option PlacedRow) (edits : List CellEdit) → bookmark r.bookmark s ≡ o →
+    acknowledge_in session s r o ≡ Makes edits → AreGood s edits
+acknowledge_good session s r None edits e h = absurd (refuses_none _ _ edits h)
+acknowledge_good session s r (Some at) edits e h =
+    good_or_refused s (in_transaction session s) (rewrites 4 at (bookmark_values r.bookmark r.place) ∷ []) edits
+    (rewrite-good s 4 at (bookmark_values r.bookmark r.place) (lit< tt) (bookmark-lies r.bookmark s at e) (not_held_user _ refl, tt)) h
 
-acknowledge_good : (session : ℕ) (s : State) (o : Option Reader) (edits : List CellEdit) → ((r : Reader) → o ≡ Some r → is_some (bookmark r.bookmark s) ≡ true) →
-    acknowledge session s o ≡ Makes edits → AreGood s edits
-acknowledge_good session s None edits there h = absurd (refuses_none _ _ edits h)
-acknowledge_good session s (Some r) edits there h =
-    good_or_refused s (in_transaction session s) (acknowledged (bookmark r.bookmark s) r) edits (acknowledged_good s r (bookmark r.bookmark s) refl (there r refl)) h
+reader_good : (session : ℕ) (s : State) (o : Option Reader) (edits : List CellEdit) → acknowledge session s o ≡ Makes edits → AreGood s edits
+reader_good session s None edits h = absurd (refuses_none _ _ edits h)
+reader_good session s (Some r) edits h = acknowledge_good session s r (bookmark r.bookmark s) edits refl h
 
-pub acknowledge-good : (session : ℕ) (s : State) (edits : List CellEdit) → ((r : Reader) → s.reader session ≡ Some r → is_some (bookmark r.bookmark s) ≡ true) →
-    meant_by_acknowledge session s ≡ Makes edits → AreGood s edits
+pub acknowledge-good : (session : ℕ) (s : State) (edits : List CellEdit) → meant_by_acknowledge session s ≡ Makes edits → AreGood s edits
 unfolding meant_by_acknowledge
-acknowledge-good session s edits there h = acknowledge_good session s (s.reader session) edits there h
+acknowledge-good session s edits h = reader_good session s (s.reader session) edits h
 
 -- ---- dropping tables and indexes
 
@@ -193,7 +194,7 @@ some-filter : (table : ℕ) (f : PlacedRow → Bool) (rows : List PlacedRow) →
 some-filter table f [] h = absurd (true≢false (sym h))
 some-filter table f (r ∷ rows) h = some_filter_step table f r rows (some-filter table f rows) (f r) h
 
-numbered-rows : (table column n : ℕ) (s : State) → AreRows table (cells_of s) (with_number_at column n (system_rows table s))
+pub numbered-rows : (table column n : ℕ) (s : State) → AreRows table (cells_of s) (with_number_at column n (system_rows table s))
 numbered-rows table column n s = are_rows-filter table (cells_of s) (λ r. number_at column r == n) (system_rows table s) (are_system_rows table s)
 
 drop_index_good : (session : ℕ) (s : State) (name : List ℕ) (o : Option Index) (edits : List CellEdit) → index_named name (catalog s) ≡ o →

@@ -24,9 +24,10 @@ use Rattle.tt_model.specs.Committed.{Cells, is_full}
 use Rattle.tt_model.specs.Live.{is_live, numbers_from, without_number}
 use Rattle.tt_model.specs.Holders.{value_at, has_held, holds_by, is_held_by}
 use Rattle.tt_model.specs.Tables.{Table, Index, PlacedRow, row_in, row_at, rows_of, number_at, with_number_at, with_text_at, by_number, by_text, in_order, inserted, table_of, catalog_of, table_named, index_named, indexes_of, column_named, whole_number_of}
-use Rattle.tt_model.specs.State.{State, CellEdit, Reader, trail, live_in, cells_of, bound, catalog}
+use Rattle.tt_model.specs.State.{State, Reader, trail, live_in, cells_of, bound, catalog}
+use Rattle.tt_model.specs.declared.definition.CellEdit.{CellEdit}
 use Rattle.tt_model.specs.Meaning.{Makes, unless, first_of, refused_if, full, rows_seen, rows_taken, cond_refusal, delete_row_refusal, insert_refusal, inserted_row, insert_into, delete_from, update_in, update_rows, update_row_refusal, sets_refusal, set_values, with_values, with_row, makes, no_room}
-use Rattle.tt_model.specs.System.{system_rows, in_transaction, deletes, adds, number, least_unused, column_rows, open_on, changes_table, cell_is_of, drop_table, drop_index, create_index, unsubscribe, subscription, delete_bookmark, bookmark, acknowledge, acknowledged, subscribe, has_twice, has_value_twice, meant_by_create_table, meant_by_create_bookmark}
+use Rattle.tt_model.specs.System.{system_rows, in_transaction, deletes, adds, number, least_unused, column_rows, open_on, changes_table, cell_is_of, drop_table, drop_index, create_index, unsubscribe, subscription, delete_bookmark, bookmark, acknowledge, acknowledge_in, bookmark_values, rewrites, subscribe, has_twice, has_value_twice, meant_by_create_table, meant_by_create_bookmark}
 use Rattle.tt_model.specs.Backups.{set_edit}
 use Rattle.tt_model.specs.Sound.{whole_table, IsSound}
 use Rattle.tt_model.specs.WholeRuns.{Each}
@@ -237,11 +238,11 @@ all_used (suc n) from used h =
     is_in-without_other from k used (false_from_ne_true (nat_eq from k) (λ y. let same : from ≡ k = eqb-true from k y in absurd (omega (arith, same, l)))) (h k (omega (arith, l)) (omega (arith, m)))) in
     omega (arith, less, rest)
 
-not_not : (b : Bool) → not b ≡ true → b ≡ false
+pub not_not : (b : Bool) → not b ≡ true → b ≡ false
 not_not true h = absurd (true≢false (sym h))
 not_not false h = refl
 
-not_none : (b : Bool) → not b ≡ false → b ≡ true
+pub not_none : (b : Bool) → not b ≡ false → b ≡ true
 not_none true h = refl
 not_none false h = absurd (true≢false h)
 
@@ -262,7 +263,7 @@ unused_by from used None e =
     (none_passes (λ n. not (list_any (nat_eq n) used)) (numbers_from (suc (length used)) from) e k (among k (suc (length used)) from l m))) in
     absurd (omega (arith, more))
 
-least_unused-new : (from : ℕ) (used : List ℕ) → list_any (nat_eq (least_unused from used)) used ≡ false
+pub least_unused-new : (from : ℕ) (used : List ℕ) → list_any (nat_eq (least_unused from used)) used ≡ false
 least_unused-new from used = unused_by from used (find (λ n. not (list_any (nat_eq n) used)) (numbers_from (suc (length used)) from)) refl
 
 -- The number of a table that is there is among those of the catalog.
@@ -306,7 +307,7 @@ full_row : (m : ℕ) (c : Cell) → is_some (row_with 1 0 m c) ≡ true → is_f
 full_row m Empty h = absurd (true≢false (sym h))
 full_row m (FullCell table row) h = refl
 
-id-among : (m : ℕ) (s : State) → IsSound s → HasTable m (cells_of s) → list_any (nat_eq m) (map (λ (t : Table). t.id) (catalog s).tables) ≡ true
+pub id-among : (m : ℕ) (s : State) → IsSound s → HasTable m (cells_of s) → list_any (nat_eq m) (map (λ (t : Table). t.id) (catalog s).tables) ≡ true
 unfolding catalog_of rows_of
 id-among m s h t =
     let rows : List PlacedRow = rows_of 1 (bound s) (cells_of s) in
@@ -342,18 +343,15 @@ create_table-elsewhere m session s name columns key edits h t e =
     elsewhere_or_refused m _ _ edits
     (adds_elsewhere m 1 id _ refl other, columns_elsewhere m id key 1 columns other) e
 
-pub drop_table-elsewhere : (m u session : ℕ) (s : State) (o : Option Table) (edits : List CellEdit) → IsSound s → is_live u s.entries ≡ true → is_held_by (whole_table m) s.entries u ≡ true →
-    drop_table session s o ≡ Makes edits → AreElsewhere m edits
-drop_table-elsewhere m u session s None edits h l k e = absurd (refuses_none _ _ edits e)
-drop_table-elsewhere m u session s (Some t) edits h l k e =
+-- The edits that drop another table.
+pub drop_table-apart : (m session : ℕ) (s : State) (t : Table) (edits : List CellEdit) → (t.id == m) ≡ false → drop_table session s (Some t) ≡ Makes edits → AreElsewhere m edits
+drop_table-apart m session s t edits other e =
     let five : List PlacedRow = by_text 0 (with_number_at 1 t.id (system_rows 5 s)) in
     let three : List PlacedRow = by_number 0 (with_number_at 1 t.id (system_rows 3 s)) in
     let two : List PlacedRow = by_number 1 (with_number_at 0 t.id (system_rows 2 s)) in
     let one : List PlacedRow = with_number_at 0 t.id (system_rows 1 s) in
     let last : List CellEdit = map (deletes 2) two ++ map (deletes 1) one in
     let tests : List (Option Refusal) = in_transaction session s ∷ open_on t.id s ∷ refused_if (not (length (system_rows t.id s) == 0)) NotEmpty ∷ [] in
-    let passed : first_of tests ≡ None = (unless-makes (first_of tests) _ edits e).0 in
-    let other : (t.id == m) ≡ false = open-other t.id m u s h (((each_none tests passed).1).0) l k in
     elsewhere_or_refused m (first_of tests) (map (deletes 5) five ++ (map (deletes 3) three ++ last)) edits
     (elsewhere-append m (map (deletes 5) five) (map (deletes 3) three ++ last) (deletes-elsewhere m 5 five refl refl)
     (elsewhere-append m (map (deletes 3) three) last (deletes-elsewhere m 3 three refl refl)
@@ -361,6 +359,14 @@ drop_table-elsewhere m u session s (Some t) edits h l k e =
     (deletes_numbered m t.id 2 two other
     (each_in_order (λ (r : PlacedRow). (number_at 0 r == t.id) ≡ true) (λ a b. nat_cmp (number_at 1 a) (number_at 1 b)) (with_number_at 0 t.id (system_rows 2 s)) (each_filter (λ (r : PlacedRow). number_at 0 r == t.id) (system_rows 2 s))))
     (deletes_numbered m t.id 1 one other (each_filter (λ (r : PlacedRow). number_at 0 r == t.id) (system_rows 1 s)))))) e
+
+pub drop_table-elsewhere : (m u session : ℕ) (s : State) (o : Option Table) (edits : List CellEdit) → IsSound s → is_live u s.entries ≡ true → is_held_by (whole_table m) s.entries u ≡ true →
+    drop_table session s o ≡ Makes edits → AreElsewhere m edits
+drop_table-elsewhere m u session s None edits h l k e = absurd (refuses_none _ _ edits e)
+drop_table-elsewhere m u session s (Some t) edits h l k e =
+    let tests : List (Option Refusal) = in_transaction session s ∷ open_on t.id s ∷ refused_if (not (length (system_rows t.id s) == 0)) NotEmpty ∷ [] in
+    let passed : first_of tests ≡ None = (unless-makes (first_of tests) _ edits e).0 in
+    drop_table-apart m session s t edits (open-other t.id m u s h (((each_none tests passed).1).0) l k) e
 
 pub drop_index-elsewhere : (m session : ℕ) (s : State) (o : Option Index) (edits : List CellEdit) → drop_index session s o ≡ Makes edits → AreElsewhere m edits
 drop_index-elsewhere m session s None edits e = absurd (refuses_none _ _ edits e)
@@ -378,13 +384,15 @@ delete_bookmark-elsewhere m session s name (Some r) edits e =
     elsewhere_or_refused m _ (map (deletes 5) rows ++ map (deletes 4) (r ∷ [])) edits
     (elsewhere-append m (map (deletes 5) rows) (map (deletes 4) (r ∷ [])) (deletes-elsewhere m 5 rows refl refl) (deletes-elsewhere m 4 (r ∷ []) refl refl)) e
 
+acknowledged-elsewhere : (m session : ℕ) (s : State) (r : Reader) (o : Option PlacedRow) (edits : List CellEdit) → acknowledge_in session s r o ≡ Makes edits → AreElsewhere m edits
+acknowledged-elsewhere m session s r None edits e = absurd (refuses_none _ _ edits e)
+acknowledged-elsewhere m session s r (Some at) edits e =
+    elsewhere_or_refused m (in_transaction session s) (rewrites 4 at (bookmark_values r.bookmark r.place) ∷ []) edits
+    (record { before = record { table = refl; column = refl }; after = record { table = refl; column = refl }; index = refl }, tt) e
+
 pub acknowledge-elsewhere : (m session : ℕ) (s : State) (o : Option Reader) (edits : List CellEdit) → acknowledge session s o ≡ Makes edits → AreElsewhere m edits
 acknowledge-elsewhere m session s None edits e = absurd (refuses_none _ _ edits e)
-acknowledge-elsewhere m session s (Some r) edits e = elsewhere_or_refused m (in_transaction session s) (acknowledged (bookmark r.bookmark s) r) edits (one m r (bookmark r.bookmark s)) e
-  where
-    one : (m : ℕ) (r : Reader) (o : Option PlacedRow) → AreElsewhere m (acknowledged o r)
-    one m r None = tt
-    one m r (Some at) = (record { before = record { table = refl; column = refl }; after = record { table = refl; column = refl }; index = refl }, tt)
+acknowledge-elsewhere m session s (Some r) edits e = acknowledged-elsewhere m session s r (bookmark r.bookmark s) edits e
 
 abbrev index_tests : ℕ → State → List ℕ → List (List ℕ) → Bool → Table → List (Option Refusal)
 index_tests session s name columns unique t =

@@ -20,13 +20,14 @@ use Rattle.tt_model.specs.Live.{live, is_live}
 use Rattle.tt_model.specs.Holders.{has_held, is_held_by}
 use Rattle.tt_model.specs.Sets.{Sound, SetStanding}
 use Rattle.tt_model.specs.Tables.{PlacedRow, table_named, index_named}
-use Rattle.tt_model.specs.State.{State, CellEdit, Reader, Begun, live_in, next, catalog, cells_of, write_position, with_entry, with_edit, with_edits, all_forced, reversals}
+use Rattle.tt_model.specs.State.{State, Reader, Begun, live_in, next, catalog, cells_of, write_position, with_entry, with_edit, with_edits, all_forced, reversals}
+use Rattle.tt_model.specs.declared.definition.CellEdit.{CellEdit}
 use Rattle.tt_model.specs.Meaning.{Meant, Makes, Refuses, Gives, meant_by_insert, meant_by_update, meant_by_delete, meant_by_select}
 use Rattle.tt_model.specs.System.{bookmark, reader_on, deletes, meant_by_create_index, meant_by_subscribe, meant_by_drop_table, meant_by_drop_index, meant_by_delete_bookmark, meant_by_unsubscribe, meant_by_acknowledge}
 use Rattle.tt_model.specs.Backups.{kind_done, row_of_set, set_edit, full_now, extended_now, with_set, backup_refusal}
-use Rattle.tt_model.specs.Sound.{whole_table, IsSound, MayEdit, HasItsBookmark}
+use Rattle.tt_model.specs.Sound.{whole_table, IsSound, MayEdit}
 use Rattle.tt_model.specs.Checkpoint.{begin_checkpoint, copied, with_copies, with_all_copies, complete_where_due, completed, with_completion}
-use Rattle.tt_model.specs.Step.{Step, Answers, line, unless_refused, forced_where, statement, made, made_in, number_for, no_number_for, no_place, no_system_place, edit_length, settled, is_durable, commit_of, rollback_of, rolled_back, rollback_lengths, end_length, system, system_done, open_at, given, closed, refused, kept_place, with_reader, backed_up, backup_place, backup_kind, checkpoint_open, no_checkpoint_number, least_open, begun_reply, completion_after}
+use Rattle.tt_model.specs.Step.{Step, Answers, line, unless_refused, forced_where, statement, made, made_in, number_for, no_number_for, no_place, no_system_place, edit_length, settled, is_durable, commit_of, rollback_of, rolled_back, rollback_lengths, end_length, system, system_done, open_at, given, closed, refused, kept_place, with_reader, backed_up, backup_place, backup_kind, checkpoint_open, no_checkpoint_number, least_open, begun_reply, completion_after, no_skip, given_to, next_place_of}
 use Rattle.tt_model.proofs.AppendLemmas.{cells-Abort}
 use Rattle.tt_model.proofs.SteadyLemmas.{is_in-without}
 use Rattle.tt_model.proofs.CatalogLemmas.{next-holds_nothing, not_held_user}
@@ -230,7 +231,8 @@ leaves_opened session name s false k = leaves_open_at session name (bookmark nam
 
 leaves_given : (session : ℕ) (o : Option Reader) (n : ℕ) (s : State) → TablesAreThere s → KeepsTables s ((given session o n s).1)
 leaves_given session None n s k = leaves-self s k
-leaves_given session (Some r) n s k = leaves-self s k
+leaves_given session (Some r) n s k =
+    leaves-unless (no_skip (next_place_of r n s)) ((given_to session r n s).0) ((given_to session r n s).1) s k (leaves-self s k)
 
 leaves_closed : (session : ℕ) (o : Option Reader) (s : State) → TablesAreThere s → KeepsTables s ((closed session o s).1)
 leaves_closed session None s k = leaves-self s k
@@ -276,60 +278,60 @@ through_forced base s k = k
 
 -- ---- each line
 
-leaves-line : (session : ℕ) (command : Command) (s : State) → IsSound s → HasItsBookmark session (Ok command) s → TablesAreThere s → KeepsTables s ((line session command s).1)
+leaves-line : (session : ℕ) (command : Command) (s : State) → IsSound s → TablesAreThere s → KeepsTables s ((line session command s).1)
 unfolding line meant_by_insert meant_by_update meant_by_delete meant_by_select meant_by_create_index meant_by_subscribe meant_by_drop_table meant_by_drop_index meant_by_delete_bookmark meant_by_unsubscribe meant_by_acknowledge
-leaves-line session (Insert table values) s h n k =
+leaves-line session (Insert table values) s h k =
     leaves-statement session _ s h k (λ edits m. insert-of (λ x. HasTable x (cells_of s)) session s values (table_named table (catalog s)) edits (λ t e. table-there s table t e) m)
-leaves-line session (Update table sets condition) s h n k =
+leaves-line session (Update table sets condition) s h k =
     leaves-statement session _ s h k (λ edits m. update-of (λ x. HasTable x (cells_of s)) session s sets condition (table_named table (catalog s)) edits (λ t e. table-there s table t e) m)
-leaves-line session (Delete table condition) s h n k =
+leaves-line session (Delete table condition) s h k =
     leaves-statement session _ s h k (λ edits m. delete-of (λ x. HasTable x (cells_of s)) session s condition (table_named table (catalog s)) edits (λ t e. table-there s table t e) m)
-leaves-line session (Select table items condition order) s h n k =
+leaves-line session (Select table items condition order) s h k =
     leaves-statement session _ s h k (λ edits m. absurd (select_nothing session s items condition order (table_named table (catalog s)) edits m))
-leaves-line session CommitLine s h n k = leaves-commit session (s.own session) s h refl k
-leaves-line session Rollback s h n k = leaves-rollback session (s.own session) s k
-leaves-line session DurableCommit s h n k = leaves-self s k
-leaves-line session Flush s h n k = through_forced s s (leaves-self s k)
-leaves-line session LogHolds s h n k = leaves-self s k
-leaves-line session Bookmark s h n k = leaves-self s k
-leaves-line session (CreateTable x columns key) s h n k =
+leaves-line session CommitLine s h k = leaves-commit session (s.own session) s h refl k
+leaves-line session Rollback s h k = leaves-rollback session (s.own session) s k
+leaves-line session DurableCommit s h k = leaves-self s k
+leaves-line session Flush s h k = through_forced s s (leaves-self s k)
+leaves-line session LogHolds s h k = leaves-self s k
+leaves-line session Bookmark s h k = leaves-self s k
+leaves-line session (CreateTable x columns key) s h k =
     leaves-system _ s h k (λ edits e. let p = create_table-new session s x columns key edits e in (may_new s edits h (p.1), λ m u l held. create_table-elsewhere m session s x columns key edits h (k m u l held) e))
-leaves-line session (CreateIndex x table columns unique) s h n k =
+leaves-line session (CreateIndex x table columns unique) s h k =
     leaves-system _ s h k (λ edits e. let p = create_index_new session s x table columns unique edits e in (
       may_new s edits h (p.1),
       λ m u l held. create_index-elsewhere m u session s x columns unique (table_named table (catalog s)) edits h l held e,
     ))
-leaves-line session (XlaCreate x) s h n k =
+leaves-line session (XlaCreate x) s h k =
     leaves-system _ s h k (λ edits e. let p = create_bookmark-new session s x edits e in (may_new s edits h (p.1), λ m u l held. create_bookmark-elsewhere m session s x edits e))
-leaves-line session (XlaSubscribe table x) s h n k =
+leaves-line session (XlaSubscribe table x) s h k =
     leaves-system _ s h k (λ edits e. let p = subscribe_new session s table x edits e in (may_new s edits h (p.1), λ m u l held. subscribe-elsewhere m session s x (table_named table (catalog s)) edits e))
-leaves-line session (DropTable x) s h n k =
+leaves-line session (DropTable x) s h k =
     leaves-system _ s h k (λ edits e. (may_good s edits h (drop_table-good session s x edits e), λ m u l held. drop_table-elsewhere m u session s (table_named x (catalog s)) edits h l held e))
-leaves-line session (DropIndex x) s h n k =
+leaves-line session (DropIndex x) s h k =
     leaves-system _ s h k (λ edits e. (may_good s edits h (drop_index-good session s x edits e), λ m u l held. drop_index-elsewhere m session s (index_named x (catalog s)) edits e))
-leaves-line session (XlaDelete x) s h n k =
+leaves-line session (XlaDelete x) s h k =
     leaves-system _ s h k (λ edits e. (may_good s edits h (delete_bookmark-good session s x edits e), λ m u l held. delete_bookmark-elsewhere m session s x (bookmark x s) edits e))
-leaves-line session (XlaUnsubscribe table x) s h n k =
+leaves-line session (XlaUnsubscribe table x) s h k =
     leaves-system _ s h k (λ edits e. (may_good s edits h (unsubscribe-good session s table x edits e), λ m u l held. unsubscribe-elsewhere m session s x (table_named table (catalog s)) edits e))
-leaves-line session XlaAcknowledge s h n k =
-    leaves-system _ s h k (λ edits e. (may_good s edits h (acknowledge-good session s edits n e), λ m u l held. acknowledge-elsewhere m session s (s.reader session) edits e))
-leaves-line session (XlaOpen x) s h n k = leaves_opened session x s (is_some (s.reader session)) k
-leaves-line session (XlaNext count) s h n k = leaves_given session (s.reader session) count s k
-leaves-line session XlaClose s h n k = leaves_closed session (s.reader session) s k
-leaves-line session (BackupLine set kind) s h n k = leaves-backup session set (kind_done kind set s) s h k
-leaves-line session Ckpt s h n k =
+leaves-line session XlaAcknowledge s h k =
+    leaves-system _ s h k (λ edits e. (may_good s edits h (acknowledge-good session s edits e), λ m u l held. acknowledge-elsewhere m session s (s.reader session) edits e))
+leaves-line session (XlaOpen x) s h k = leaves_opened session x s (is_some (s.reader session)) k
+leaves-line session (XlaNext count) s h k = leaves_given session (s.reader session) count s k
+leaves-line session XlaClose s h k = leaves_closed session (s.reader session) s k
+leaves-line session (BackupLine set kind) s h k = leaves-backup session set (kind_done kind set s) s h k
+leaves-line session Ckpt s h k =
     leaves-unless (option_or (checkpoint_open s) (no_checkpoint_number s)) (begun_reply s) (begin_checkpoint s) s k (through_begin s s (leaves-self s k))
-leaves-line session CkptBlocking s h n k =
+leaves-line session CkptBlocking s h k =
     let begun : State = begin_checkpoint s in
     leaves-unless (option_or (checkpoint_open s) (option_or (least_open (live_in s)) (no_checkpoint_number s))) (begun_reply s) (with_completion (with_all_copies begun)) s k
     (through_completion s (with_all_copies begun) (through_all_copies s begun (through_begin s s (leaves-self s k))))
 
-leaves-answers : (session : ℕ) (what : Result Command Refusal) (s : State) (reply : Reply) (after : State) → IsSound s → HasItsBookmark session what s → TablesAreThere s →
+leaves-answers : (session : ℕ) (what : Result Command Refusal) (s : State) (reply : Reply) (after : State) → IsSound s → TablesAreThere s →
     Answers session what s reply after → KeepsTables s after
-leaves-answers session (Ok command) s reply after h n k (inl t) = subst (KeepsTables s) (sym (t.1)) (leaves-line session command s h n k)
-leaves-answers session (Err r) s reply after h n k (inl t) = subst (KeepsTables s) (sym (t.1)) (leaves-self s k)
-leaves-answers session (Err r) s reply after h n k (inr w) = absurd w
-leaves-answers session (Ok command) s reply after h n k (inr w) = elim (w.2) [
+leaves-answers session (Ok command) s reply after h k (inl t) = subst (KeepsTables s) (sym (t.1)) (leaves-line session command s h k)
+leaves-answers session (Err r) s reply after h k (inl t) = subst (KeepsTables s) (sym (t.1)) (leaves-self s k)
+leaves-answers session (Err r) s reply after h k (inr w) = absurd w
+leaves-answers session (Ok command) s reply after h k (inr w) = elim (w.2) [
   | inl same ↦ subst (KeepsTables s) (sym same) (leaves-self s k)
   | inr forced ↦ subst (KeepsTables s) (sym (forced.1)) (through_forced s s (leaves-self s k))
 ]
@@ -344,12 +346,12 @@ from_copied : (n : ℕ) (o : Option Begun) (s after : State) → KeepsTables (co
 from_copied n None s after k = k
 from_copied n (Some b) s after k = k
 
-pub leaves-step : (s : State) (session : ℕ) (what : Result Command Refusal) (reply : Reply) (after : State) → IsSound (with_copies s) → HasItsBookmark session what (with_copies s) → TablesAreThere s →
+pub leaves-step : (s : State) (session : ℕ) (what : Result Command Refusal) (reply : Reply) (after : State) → IsSound (with_copies s) → TablesAreThere s →
     Step s session what reply after → KeepsTables s after
 unfolding with_copies
-leaves-step s session what reply after h n k st =
+leaves-step s session what reply after h k st =
     let mid : State = copied s.settings.ckpt_pages s.underway s in
     subst (KeepsTables s) (sym st.is)
     (through_after s s.underway st.between
     (from_copied s.settings.ckpt_pages s.underway s st.between
-    (leaves-answers session what mid reply st.between h n (there_copied s.settings.ckpt_pages s.underway s k) st.line)))
+    (leaves-answers session what mid reply st.between h (there_copied s.settings.ckpt_pages s.underway s k) st.line)))

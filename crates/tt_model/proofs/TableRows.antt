@@ -14,7 +14,8 @@ use Rattle.tt_model.specs.Committed.{Cells, is_full, put, changed, changed_by, c
 use Rattle.tt_model.specs.Live.{is_live, touched, numbers_from}
 use Rattle.tt_model.specs.Holders.{Held, value_at, has_held, holds_by, is_held_by}
 use Rattle.tt_model.specs.Tables.{PlacedRow, row_in, row_at, rows_of, number_at, with_number_at, whole_number_of}
-use Rattle.tt_model.specs.State.{State, CellEdit, trail, next, cells_of, bound, place_for, with_entry, with_edit, with_edits}
+use Rattle.tt_model.specs.State.{State, trail, next, cells_of, bound, place_for, with_entry, with_edit, with_edits}
+use Rattle.tt_model.specs.declared.definition.CellEdit.{CellEdit}
 use Rattle.tt_model.specs.Steady.{MayChange}
 use Rattle.tt_model.specs.Sound.{whole_table, IsSound, MayWrite, MayEdit}
 use Rattle.tt_model.specs.Step.{system_done}
@@ -135,7 +136,7 @@ alike-system_done m edits s h may elsewhere =
 -- ---- commits of users' transactions
 
 -- A cell of another table has no row in this one.
-row_none : (table : ℕ) (c : Cell) → has_held (whole_table table) c ≡ false → row_in table c ≡ None
+pub row_none : (table : ℕ) (c : Cell) → has_held (whole_table table) c ≡ false → row_in table c ≡ None
 row_none table Empty n = refl
 row_none table (Full u row) n = by_test (nat_eq table u) n
   where
@@ -162,14 +163,14 @@ left_step name t q (Abort u) cells n h = h
 left_step name t q Mark cells n h = h
 left_step name t q (Switch f) cells n h = h
 
-left-none : (name : Held) (t q : ℕ) (es : Trail) (cells : Cells) → is_held_by name es t ≡ false → has_held name (cells q) ≡ false → has_held name (changed_by t es cells q) ≡ false
+pub left-none : (name : Held) (t q : ℕ) (es : Trail) (cells : Cells) → is_held_by name es t ≡ false → has_held name (cells q) ≡ false → has_held name (changed_by t es cells q) ≡ false
 left-none name t q [] cells n h = h
 left-none name t q (e ∷ es) cells n h =
     let parts : (holds_by name t e.entry ≡ false) × (is_held_by name es t ≡ false) = or_parts (holds_by name t e.entry) (is_held_by name es t) n in
     left_step name t q e.entry (changed_by t es cells) (parts.0) (left-none name t q es cells (parts.1) h)
 
 -- A place that a live transaction touched has no row of a system table.
-place_none : (s : State) (t q table : ℕ) → IsSound s → is_live t s.entries ≡ true → table < 16 → touched t q s.entries ≡ true → has_held (whole_table table) (cells_of s q) ≡ false
+pub place_none : (s : State) (t q table : ℕ) → IsSound s → is_live t s.entries ≡ true → table < 16 → touched t q s.entries ≡ true → has_held (whole_table table) (cells_of s q) ≡ false
 place_none s t q table h l low y = false_from_ne_true (has_held (whole_table table) (cells_of s q)) (λ k.
     both_ways (is_held_by (whole_table table) s.entries t) ((h.catalog).users t table l low)
     (held_first (whole_table table) t q s.entries (cells_of s q) (first_before-committed s.found.cells t q s.entries ((h.entries).grown) l y) k))

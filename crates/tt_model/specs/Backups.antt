@@ -10,7 +10,8 @@ use Rattle.tt_model.specs.Committed.{current}
 use Rattle.tt_model.specs.Found.{Head}
 use Rattle.tt_model.specs.Sets.{BackupSet, SetStanding, Sound, Unsound, set_end, full_set, extended}
 use Rattle.tt_model.specs.Tables.{PlacedRow, set_row, position_at}
-use Rattle.tt_model.specs.State.{State, CellEdit, at_one, trail, cells_of, bound, newest_number, next, low_now, write_position, force_position}
+use Rattle.tt_model.specs.State.{State, at_one, trail, cells_of, bound, newest_number, next, low_now, write_position, force_position}
+use Rattle.tt_model.specs.declared.definition.CellEdit.{CellEdit}
 use Rattle.tt_model.specs.Meaning.{refused_if, first_of, no_room}
 use Rattle.tt_model.specs.System.{in_transaction, system_rows, adds, rewrites, number}
 

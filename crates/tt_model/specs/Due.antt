@@ -12,7 +12,7 @@ use Rattle.tt_record.specs.declared.entry.Entry.TheVariants.{Change, Commit, Abo
 use Rattle.tt_model.specs.Trail.{Trail, Placed, position_lt, position_le, position_eq, placed_end, greatest_position, before}
 use Rattle.tt_model.specs.Live.{ends}
 use Rattle.tt_model.specs.Holds.{least_of}
-use Rattle.tt_model.specs.Tables.{Catalog, Subscribed, table_with}
+use Rattle.tt_model.specs.Tables.{Subscribed, table_with, Catalog}
 use Rattle.tt_model.specs.State.{ReadPlace}
 
 -- A Change: its table's id and what it does.

@@ -22,8 +22,7 @@ use Rattle.tt_model.specs.Standing.{standing, is_ended, last_after, first_before
 use Rattle.tt_model.specs.Found.{Found}
 use Rattle.tt_model.specs.Sets.{SetStanding}
 use Rattle.tt_model.specs.State.{State, trail, placed, write_position, cells_of, view, live_in, next, with_entry, with_edits, reversals}
-use Rattle.tt_model.specs.Sound.{IsUserTable, IsSound, HasItsBookmark, has_mark}
-use Rattle.tt_model.specs.Checkpoint.{with_copies}
+use Rattle.tt_model.specs.Sound.{IsUserTable, IsSound, has_mark}
 use Rattle.tt_model.specs.Step.{Step, stepped, takes_memory}
 use Rattle.tt_model.specs.Run.{opened, begun, ended}
 
@@ -136,13 +135,13 @@ ReversedMayAbort = (base : Cells) (t : ℕ) (s : State) → IsGrown base s.entri
 -- ---- sound states
 
 -- A run begins sound, where every row lies in the pages and every table has a number from 16 on. Every round leads from a sound
--- state to a sound one, whatever the line, and in any memory; where a session acknowledges, its reader's bookmark is to be there. So does the end of a run,
+-- state to a sound one, whatever the line, and in any memory. So does the end of a run,
 -- which leaves no transaction live where it was done to its end.
 pub record StatesStaySound : Type 0 where
   pub begun : (settings : Settings) (found : Found) (files : ℕ → Bool) (sets : ℕ → Option SetStanding) →
       ((q : ℕ) → is_full (found.cells q) ≡ true → q < 32 * (opened settings found files sets).pages) → ((q : ℕ) → IsUserTable (found.cells q)) →
       IsSound (begun settings found files sets)
-  pub step : (s : State) (session : ℕ) (what : Result Command Refusal) (reply : Reply) (after : State) → HasItsBookmark session what (with_copies s) →
+  pub step : (s : State) (session : ℕ) (what : Result Command Refusal) (reply : Reply) (after : State) →
       IsSound s → Step s session what reply after → IsSound after
   pub end : (s : State) → IsSound s → IsSound ((ended s).1)
   pub none_left : (s : State) (t : ℕ) → IsSound s → (ended s).0 ≡ true → is_live t (((ended s).1).entries) ≡ false

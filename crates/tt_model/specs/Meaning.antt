@@ -31,7 +31,8 @@ use Rattle.tt_model.specs.Trail.{Trail}
 use Rattle.tt_model.specs.Holders.{Held, other_holder, values_at, value_at, has_null}
 use Rattle.tt_model.specs.Tables.{Table, Index, PlacedRow, rows_of, in_order, table_named, unique_of, column_named}
 use Rattle.tt_model.specs.Conditions.{takes, has_columns, has_kinds, is_column, is_text_column, is_text_type, column_at}
-use Rattle.tt_model.specs.State.{State, CellEdit, trail, view, bound, used_count, catalog}
+use Rattle.tt_model.specs.State.{State, trail, view, bound, used_count, catalog}
+use Rattle.tt_model.specs.declared.definition.CellEdit.{CellEdit}
 
 pub data Meant : Type 0 where
   Refuses : Refusal → Meant

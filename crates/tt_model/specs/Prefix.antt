@@ -30,7 +30,11 @@ pub record StandsForFirst (n : ℕ) (s : State) (f : Found) : Type 0 where
 abbrev pub StandsForPrefix : ℕ → State → Found → Type 0
 StandsForPrefix forced s f = (n : ℕ) × (forced ≤ n) × StandsForFirst n s f
 
--- What is read of the files is one and the same in every map that a crash may leave, and in the present one: what opening finds of the
--- log and the images, or what a backup set stands for.
+-- What is read of the files is one and the same in every map that a crash may leave, and in the present one. So it may be that nothing is
+-- there, as of a backup set that wasn't made.
+abbrev pub IsSame : {M R : Type 0} → (M → R) → (M → Type 0) → M → Type 0
+IsSame {M} {R} read may now = (m : M) → may m → read m ≡ read now
+
+-- Something is read, and the same: what opening finds of the log and the images.
 abbrev pub IsSettled : {M R : Type 0} → (M → Option R) → (M → Type 0) → M → Type 0
-IsSettled {M} {R} read may now = (found : R) × (read now ≡ Some found) × ((m : M) → may m → read m ≡ Some found)
+IsSettled {M} {R} read may now = (found : R) × (read now ≡ Some found) × IsSame read may now

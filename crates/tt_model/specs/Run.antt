@@ -93,20 +93,32 @@ ended s = roll_all (live_in s) (record s { underway = None })
 
 -- ---- a run that ended, at whatever moment
 
--- What a run was to leave when it ended: what its answered lines leave; or what one more line would leave, which stopped; or what its
--- end would leave, which stopped or was done. What the end does is given, since a crate may build it in parts.
-abbrev pub WasToLeave : (State → State) → State → State → Type 0
-WasToLeave end s last = (last ≡ s) ⊎ (((l : Line) × (reply : Reply) × Step s l.session l.what reply last) ⊎ (last ≡ end s))
+-- The next line stopped: without its reply, or once its reply was given, in what the round does beside the line and behind it. In both
+-- cases some first entries are found of what its round was to leave: at least those that were forced before the line; with the reply
+-- at least those that were forced behind the line, before the completion.
+abbrev pub StoppedIn : Option Reply → Line → State → State → ℕ → Type 0
+StoppedIn None l s last least = ((reply : Reply) × Step s l.session l.what reply last) × (least ≡ s.forced)
+StoppedIn (Some reply) l s last least = (round : Step s l.session l.what reply last) × (least ≡ (round.between).forced)
 
--- What may be found after a run, whichever way it ended. From its begin the answered lines lead to a state; it was to leave a last
--- state; and what is found stands for the first entries of that one's trail, at least those that were forced before.
-pub record FoundAfter (end : State → State) (begin : State) (lines : List Line) (replies : List Reply) (f : Found) : Type 0 where
+abbrev pub StoppedInNext : List Line → Option Reply → State → State → ℕ → Type 0
+StoppedInNext [] given s last least = ⊥
+StoppedInNext (l ∷ rest) given s last least = StoppedIn given l s last least
+
+-- What a run was to leave when it ended, with the lines that were left: what its answered lines leave; or what the next line would leave,
+-- which stopped; or, where no line was left, what its end would leave, which stopped or was done. What the end does is given, since a
+-- crate may build it in parts.
+abbrev pub WasToLeave : (State → State) → List Line → Option Reply → State → State → ℕ → Type 0
+WasToLeave end rest given s last least =
+    ((last ≡ s) × (given ≡ None) × (least ≡ s.forced))
+    ⊎ (StoppedInNext rest given s last least ⊎ ((rest ≡ []) × (given ≡ None) × (last ≡ end s) × (least ≡ s.forced)))
+
+-- What may be found after a run, whichever way it ended. From its begin the answered lines lead to a state; with the lines that were left it was
+-- to leave a last state, and the stopped one may have been answered; what is found stands for the first entries of that state's trail, at least
+-- as many as were forced.
+pub record FoundAfter (end : State → State) (begin : State) (lines : List Line) (replies : List Reply) (rest : List Line) (given : Option Reply) (f : Found) : Type 0 where
   pub state : State
   pub last : State
+  pub least : ℕ
   pub run : Run begin lines replies state
-  pub act : WasToLeave end state last
-  pub found : StandsForPrefix state.forced last f
-
--- Where a round stopped behind its line and still gave the reply, it has at least what was forced behind the line, before the completion.
-abbrev pub FoundBehindLine : State → Line → Reply → State → Found → Type 0
-FoundBehindLine s l reply last f = (round : Step s l.session l.what reply last) × StandsForPrefix (round.between).forced last f
+  pub act : WasToLeave end rest given state last least
+  pub found : StandsForPrefix least last f

@@ -1,12 +1,8 @@
 -- What always holds of a state that lines lead to, and which changes a transaction may make.
-use Rattle.std.specs.Prelude.{◌≡◌, ◌≤◌, ◌<◌, ◌⊎◌, ◌*◌, ◌++◌, ℕ, Bool, true, false, List, [], ◌∷◌, length, Option, Some, is_some, Result, Ok}
+use Rattle.std.specs.Prelude.{◌≡◌, ◌≤◌, ◌<◌, ◌⊎◌, ◌*◌, ◌++◌, ℕ, Bool, true, false, List, [], ◌∷◌, length, Option, Some}
 use Rattle.std.specs.List.{list_any}
 use Rattle.tt_record.specs.declared.entry.Entry.{Entry}
 use Rattle.tt_record.specs.declared.entry.Entry.TheVariants.{Mark}
-use Rattle.tt_parse.specs.declared.command.Command.{Command}
-use Rattle.tt_parse.specs.declared.command.Command.TheVariants.{XlaAcknowledge}
-use Rattle.tt_value.specs.declared.refusal.Refusal.{Refusal}
-use Rattle.tt_model.specs.System.{bookmark}
 use Rattle.tt_model.specs.Trail.{Trail, IsOrdered}
 use Rattle.tt_model.specs.Committed.{Cells, committed}
 use Rattle.tt_model.specs.Holders.{Held, is_held_by, value_at}
@@ -17,7 +13,8 @@ use Rattle.tt_value.specs.declared.value.Cell.TheVariants.{Full}
 use Rattle.tt_model.specs.Live.{is_live, in_use}
 use Rattle.tt_model.specs.Found.{Found}
 use Rattle.tt_model.specs.Steady.{IsGrown, MayChange}
-use Rattle.tt_model.specs.State.{State, CellEdit, Reader, next, place_for, with_edit}
+use Rattle.tt_model.specs.State.{State, next, place_for, with_edit}
+use Rattle.tt_model.specs.declared.definition.CellEdit.{CellEdit}
 
 abbrev pub is_mark : Entry → Bool
 is_mark Mark = true
@@ -67,8 +64,3 @@ MayWrite t s = (is_live t s.entries ≡ true) ⊎ (t ≡ next s)
 abbrev pub MayEdit : ℕ → List CellEdit → State → Type 0
 MayEdit t [] s = Unit {0}
 MayEdit t (edit ∷ edits) s = MayChange s.found.cells s.entries t (place_for edit.place s) edit.before × MayEdit t edits (with_edit t edit s)
-
--- Where a session acknowledges, its reader's bookmark is there.
-abbrev pub HasItsBookmark : ℕ → Result Command Refusal → State → Type 0
-HasItsBookmark session (Ok XlaAcknowledge) s = (r : Reader) → s.reader session ≡ Some r → is_some (bookmark r.bookmark s) ≡ true
-HasItsBookmark session _ s = Unit {0}

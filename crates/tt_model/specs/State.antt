@@ -1,6 +1,5 @@
 -- The state of the machine, and what one more entry, a force and a whole transaction do to it.
 use Rattle.std.specs.Prelude.{ℕ, ◌-◌, ◌*◌, ◌/◌, Bool, true, false, ◌||◌, nat_eq, List, [], ◌∷◌, ◌++◌, length, Option, Some, None, if◌then◌else◌}
-use Rattle.tt_value.specs.declared.value.Cell.{Cell}
 use Rattle.tt_value.specs.declared.position.Position.{Position}
 use Rattle.tt_value.specs.declared.reply.Hold.{Hold}
 use Rattle.tt_record.specs.declared.entry.Entry.{Entry}
@@ -13,7 +12,8 @@ use Rattle.tt_model.specs.Committed.{Cells, committed}
 use Rattle.tt_model.specs.Live.{live, view_of, in_use, least_free, taken_count, next_number, pages_after}
 use Rattle.tt_model.specs.Forced.{forced_for}
 use Rattle.tt_model.specs.Holds.{holds_of, least_hold_of, low}
-use Rattle.tt_model.specs.Tables.{Catalog, catalog_of}
+use Rattle.tt_model.specs.Tables.{catalog_of, Catalog}
+use Rattle.tt_model.specs.declared.definition.CellEdit.{CellEdit}
 use Rattle.tt_model.specs.Found.{Head, Found, scan_of, number_of}
 use Rattle.tt_model.specs.Sets.{SetStanding}
 
@@ -147,12 +147,6 @@ with_entry e s = record s {
 -- The whole trail is forced.
 unfoldable pub all_forced : State → State
 all_forced s = record s { forced = length (trail s) }
-
--- A change that is planned: its place, or none where it takes the least free one.
-pub record CellEdit : Type 0 where
-  pub place : Option ℕ
-  pub before : Cell
-  pub after : Cell
 
 abbrev pub place_for : Option ℕ → State → ℕ
 place_for None s = free_place s

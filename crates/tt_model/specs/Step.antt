@@ -1,5 +1,5 @@
 -- One line: what it does to the state, and what it is answered.
-use Rattle.std.specs.Prelude.{◌≡◌, ◌⊎◌, ◌&&◌, ℕ, suc, ◌+◌, ◌^◌, Bool, true, false, not, ◌||◌, nat_le, List, [], ◌∷◌, ◌++◌, map, length, take, option_map, is_some, Option, Some, None, Result, Ok, Err, if◌then◌else◌}
+use Rattle.std.specs.Prelude.{◌≡◌, ◌⊎◌, ◌&&◌, ℕ, suc, ◌+◌, ◌^◌, Bool, true, false, not, ◌||◌, nat_le, nat_lt, List, [], ◌∷◌, ◌++◌, map, length, take, option_map, is_some, Option, Some, None, Result, Ok, Err, if◌then◌else◌}
 use Rattle.std.specs.Option.{option_or}
 use Rattle.tt_value.specs.declared.refusal.Refusal.{Refusal}
 use Rattle.tt_value.specs.declared.refusal.Refusal.TheVariants.{LogOut, CkptOpen, TransactionOpen, NoReader, NoBookmark, BookmarkBusy, NoMemory}
@@ -20,7 +20,8 @@ use Rattle.tt_model.specs.Backups.{kind_done, backup_refusal, row_of_set, set_ed
 use Rattle.tt_model.specs.Sets.{Sound}
 use Rattle.tt_model.specs.State.{Begun}
 use Rattle.tt_model.specs.Checkpoint.{begin_checkpoint, with_copies, with_all_copies, with_completion, begun_in}
-use Rattle.tt_model.specs.State.{State, CellEdit, Reader, ReadPlace, newest_number, at_one, trail, cells_of, bound, catalog, next, live_in, holds, least_hold, write_position, force_position, with_entry, with_edits, all_forced, reversals, lengths_fit}
+use Rattle.tt_model.specs.State.{State, Reader, ReadPlace, newest_number, at_one, trail, cells_of, bound, catalog, next, live_in, holds, least_hold, write_position, force_position, with_entry, with_edits, all_forced, reversals, lengths_fit}
+use Rattle.tt_model.specs.declared.definition.CellEdit.{CellEdit}
 
 -- A line is answered, and leaves a state.
 abbrev pub Answered : Type 0
@@ -134,10 +135,18 @@ all_due r s = due r.place (subscriptions_of r.bookmark (bound s) (cells_of s)) (
 abbrev pub next_place_of : Reader → ℕ → State → ReadPlace
 next_place_of r n s = read_to r.place n (force_position s) (trail s) (take n (all_due r s))
 
+-- The count of the Changes that were given of a place's Commit has four bytes. A read whose next place would have more finds no
+-- memory for it.
+abbrev pub no_skip : ReadPlace → Option Refusal
+no_skip place = refused_if (nat_lt 4294967295 place.skip) NoMemory
+
+abbrev pub given_to : ℕ → Reader → ℕ → State → Answered
+given_to session r n s =
+    (Updates (map (λ d. d.given) (take n (all_due r s))), with_reader session (Some (record r { place = next_place_of r n s })) s)
+
 abbrev pub given : ℕ → Option Reader → ℕ → State → Answered
 given session None n s = refused NoReader s
-given session (Some r) n s =
-    (Updates (map (λ d. d.given) (take n (all_due r s))), with_reader session (Some (record r { place = next_place_of r n s })) s)
+given session (Some r) n s = unless_refused (no_skip (next_place_of r n s)) (given_to session r n s) s
 
 abbrev pub closed : ℕ → Option Reader → State → Answered
 closed session None s = refused NoReader s

@@ -1,5 +1,5 @@
 -- The catalog, bookmarks, subscriptions and backup sets: reads of the system rows in the places.
-use Rattle.std.specs.Prelude.{ℕ, suc, pos, ◌+◌, ◌-◌, ◌*◌, Bool, true, false, not, nat_eq, List, [], ◌∷◌, map, filter, filter_map, find, position, bytes_eq, option_map, Option, Some, None, if◌then◌else◌, ◌==◌}
+use Rattle.std.specs.Prelude.{ℕ, suc, pos, ◌+◌, ◌-◌, ◌*◌, true, false, not, nat_eq, List, [], ◌∷◌, map, filter, filter_map, find, position, bytes_eq, option_map, Option, Some, None, if◌then◌else◌, ◌==◌}
 use Rattle.std.specs.declared.cmp.Ordering.{Ordering}
 use Rattle.std.specs.Ordering.{is_gt, nat_cmp}
 use Rattle.std.specs.Cmp.Lexicographic.{slice_cmp}
@@ -13,6 +13,8 @@ use Rattle.tt_value.specs.declared.value.ColumnType.{ColumnType}
 use Rattle.tt_value.specs.declared.value.ColumnType.TheVariants.{BigInt, Varchar, Number as NumberOf}
 use Rattle.tt_value.specs.declared.position.Position.{Position}
 use Rattle.tt_parse.specs.declared.command.ColumnText.{ColumnText}
+use Rattle.tt_model.specs.declared.definition.TableDef.{TableDef}
+use Rattle.tt_model.specs.declared.definition.IndexDef.{IndexDef}
 use Rattle.tt_record.specs.Places.{position as position_of}
 use Rattle.tt_model.specs.Committed.{Cells}
 use Rattle.tt_model.specs.Live.{numbers_below}
@@ -69,19 +71,13 @@ by_number column rows = in_order (λ a b. nat_cmp (number_at column a) (number_a
 abbrev pub by_text : ℕ → List PlacedRow → List PlacedRow
 by_text column rows = in_order (λ a b. slice_cmp nat_cmp (text_at column a) (text_at column b)) rows
 
-pub record Table : Type 0 where
-  pub id : ℕ
-  pub name : List ℕ
-  pub columns : List ColumnText
-  pub key : List ℕ
+abbrev pub Table : Type 0
+Table = TableDef
 
-pub record Index : Type 0 where
-  pub id : ℕ
-  pub table : ℕ
-  pub unique : Bool
-  pub name : List ℕ
-  pub columns : List ℕ
+abbrev pub Index : Type 0
+Index = IndexDef
 
+-- The tables and the indexes, each in ascending number.
 pub record Catalog : Type 0 where
   pub tables : List Table
   pub indexes : List Index

@@ -19,7 +19,7 @@ use Rattle.tt_model.specs.Trail.{Trail, IsOrdered, position_le, trail_end, oldes
 use Rattle.tt_model.specs.Found.{Found}
 use Rattle.tt_value.specs.declared.value.Value.{Value}
 use Rattle.tt_model.specs.Holders.{HasOneHolder, has_null}
-use Rattle.tt_model.specs.Tables.{Table, Index, Catalog, Subscribed, subscriptions_of}
+use Rattle.tt_model.specs.Tables.{Table, Index, Subscribed, subscriptions_of, Catalog}
 use Rattle.tt_model.specs.Due.{due, name_in}
 use Rattle.tt_model.specs.Sound.{IsSound}
 use Rattle.tt_model.specs.State.{State, Reader, ReadPlace, trail, cells_of, bound, catalog}
@@ -209,10 +209,11 @@ pub record TrailsGoOn : Type 0 where
   pub run : (lines : List Line) (replies : List Reply) (s after : State) → Run s lines replies after → GoesOn s after
   pub end : (s : State) → GoesOn s ((ended s).1)
 
--- What is found after a run of sessions, whichever way it ended, stands for first entries of its trail that have all that was forced behind
--- the answered lines. Its end may be any that lets the trail go on.
+-- What is found after a run of sessions, whichever way it ended, stands for first entries of its trail: at least those that were forced behind
+-- the stopped line where it was answered, and all that was forced behind the answered lines, as it stood there. Its end may be any that lets
+-- the trail go on.
 abbrev pub ForcedEntriesAreFound : Type 0
 ForcedEntriesAreFound =
-    (end : State → State) (begin : State) (lines : List Line) (replies : List Reply) (f : Found) (run : FoundAfter end begin lines replies f)
+    (end : State → State) (begin : State) (lines : List Line) (replies : List Reply) (rest : List Line) (given : Option Reply) (f : Found) (run : FoundAfter end begin lines replies rest given f)
     → ((s : State) → GoesOn s (end s)) → IsSound begin → ReadersHaveBookmarks begin → AreOfSessions lines
-    → (n : ℕ) × StandsForFirst n run.last f × (oldest run.state.forced (oldest n (trail run.last)) ≡ oldest run.state.forced (trail run.state))
+    → (n : ℕ) × StandsForFirst n run.last f × (run.state.forced ≤ run.least) × (run.least ≤ n) × (oldest run.state.forced (oldest n (trail run.last)) ≡ oldest run.state.forced (trail run.state))

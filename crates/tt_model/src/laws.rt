@@ -1,6 +1,10 @@
 // The laws of the definitions.
 ghost use Rattle.tt_model.specs.Laws.{AtMostOneHolds, CheckpointsOpen, CommitsAlone, EntryIsAppended, ForcedNeverFalls, GrownIsSteady, LinesHaveAnswers, MarkEndsAll, NextIsAboveAll, NextIsFresh, OpeningFindsCommitted, OwnChangesAreSeen, PlacesAndFirstEntries, ReversedMayAbort, SeenRowsMayChange, StatesStaySound};
+ghost use Rattle.tt_model.specs.GoodRows.{RowsStayGood, UsersRowsStayGood};
+ghost use Rattle.tt_model.specs.GoodCatalog.{CatalogStaysGood};
 ghost use Rattle.tt_model.specs.Opening.{FirstImagesOpen};
+ghost use Rattle.tt_model.specs.StepLaws.{CatalogIsBelowItsBound, CopiesAndLinesAreApart, EntriesLieEndToEnd, FirstChangesFoundCommitted, FreePlaceIsAmongUsed, GoodRowsAreStorable, RefusedLinesLeaveAll, StepsAreDetermined, StepsGoOn, WorksAreNumbered, WorksArePlain};
+ghost use Rattle.tt_model.specs.Works.{EndFits, LinesAreWorks, WorksFit};
 ghost use Rattle.tt_model.specs.WholeRuns.{BookmarksStay, ForcedEntriesAreFound, HeldOnceInRuns, HeldOnceStays, LogFilesAreKept, ReadersGoInOrder, SelectsAreIsolated, TrailsGoOn};
 
 /// An entry stands at or behind the end of the last one, and the log then ends where it does.
@@ -126,4 +130,87 @@ pub fn first_images_open()
 /// What is found after a run, whichever way it ended, has all entries that were forced behind its answered lines.
 pub fn forced_entries_are_found()
     ensures { ForcedEntriesAreFound }
+{}
+
+/// Each line leaves the log as the entries and forces of its works do, and so does the end of a run.
+pub fn lines_are_works()
+    ensures { LinesAreWorks }
+{}
+
+/// The entries of each line's works get their places, one behind the other.
+pub fn works_fit()
+    ensures lines { WorksFit }
+    ensures end { EndFits }
+{}
+
+/// The entries of a run lie end to end, from the end that opening found.
+pub fn entries_lie_end_to_end()
+    ensures { EntriesLieEndToEnd }
+{}
+
+/// Over every line, over every run and at its end the trail goes on, and the log ends no earlier.
+pub fn steps_go_on()
+    ensures { StepsGoOn }
+{}
+
+/// The entries of a run have numbers from the one on that opening found to be the next.
+pub fn works_are_numbered()
+    ensures { WorksAreNumbered }
+{}
+
+/// A refused line leaves the state as it was.
+pub fn refused_lines_leave_all()
+    ensures { RefusedLinesLeaveAll }
+{}
+
+/// Two rounds of one line from one state differ in nothing, unless memory is wanting in one.
+pub fn steps_are_determined()
+    ensures { StepsAreDetermined }
+{}
+
+/// A line does the same before and behind the copies of its round.
+pub fn copies_and_lines_are_apart()
+    ensures { CopiesAndLinesAreApart }
+{}
+
+/// The first change of a live transaction at a place found what is committed there.
+pub fn first_change_found_what_is_committed()
+    ensures { FirstChangesFoundCommitted }
+{}
+
+/// What is read of the rows doesn't depend on a bound below which they lie.
+pub fn catalog_is_below_its_bound()
+    ensures { CatalogIsBelowItsBound }
+{}
+
+/// Users' rows stay good over every line: each fits its table, and each key and unique value stands once, in what is
+/// committed and in what each live transaction sees.
+pub fn users_rows_stay_good()
+    ensures { UsersRowsStayGood }
+{}
+
+/// No row is damaged by any line: of system rows and users' rows, in what is committed, in what live transactions see and in each
+/// first part of the trail.
+pub fn rows_stay_good()
+    ensures { RowsStayGood }
+{}
+
+/// The least free place is at most the count of places in use.
+pub fn free_place_is_among_used()
+    ensures { FreePlaceIsAmongUsed }
+{}
+
+/// Lines append entries that have the grammar of entries, and leave the log in its ranges.
+pub fn works_are_plain()
+    ensures { WorksArePlain }
+{}
+
+/// Lines may store rows in a sound state with good rows.
+pub fn good_rows_are_storable()
+    ensures { GoodRowsAreStorable }
+{}
+
+/// Lines keep the catalog good.
+pub fn catalog_stays_good()
+    ensures { CatalogStaysGood }
 {}

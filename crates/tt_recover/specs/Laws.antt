@@ -3,16 +3,16 @@ use Rattle.std.proofs.Common.{◌≡◌, ◌≤◌, ◌<◌, ℕ, zero, suc, ◌
 use Rattle.std.proofs.lemmas.Bool.{eq-eqb, eqb-true, or_left, false_from_ne_true}
 use Rattle.std.specs.Option.{option_or}
 use Rattle.tt_value.specs.declared.value.Cell.{Cell}
-use Rattle.tt_value.specs.declared.value.Cell.TheVariants.{Empty}
 use Rattle.tt_record.specs.declared.entry.Entry.{Entry}
 use Rattle.tt_record.specs.declared.entry.Entry.TheVariants.{Change, Commit, Abort, Mark, Switch}
 use Rattle.tt_model.specs.Trail.{Trail, oldest}
 use Rattle.tt_model.specs.Committed.{Cells, no_cells, put, changed, changed_by, settled, committed, current}
-use Rattle.tt_model.specs.Live.{live, after_number, next_number}
+use Rattle.tt_model.specs.Live.{live, is_live, touched, after_number, next_number}
 use Rattle.tt_model.specs.Steady.{IsGrown}
 use Rattle.tt_model.specs.Standing.{is_end_of, is_ended, after_ended, before_unended, last_after, first_before, standing_at, standing}
-use Rattle.tt_model.specs.Laws.{OpeningFindsCommitted}
-use Rattle.tt_recover.specs.Numbers.{IsNumberedFrom, AreNumberedFrom}
+use Rattle.tt_model.specs.Laws.{CheckpointsOpen, OpeningFindsCommitted}
+use Rattle.tt_model.specs.Sound.{has_mark}
+use Rattle.tt_model.specs.StepLaws.{IsNumberedFrom, AreNumberedFrom}
 
 -- ---- numbers
 
@@ -63,8 +63,8 @@ or_false true b e = refl
 or_false false b e = e
 
 -- who is ended in the whole trail, by number
-ended_late : (t : ℕ) (es found : Trail) → next_number 1 found ≤ t → is_ended t (es ++ found) ≡ is_ended t es
-ended_late t es found h = ended_in_both t es found ∙ or_false (is_ended t es) (is_ended t found) (unended_above 1 t found h)
+ended_late : (opened t : ℕ) (es found : Trail) → next_number opened found ≤ t → is_ended t (es ++ found) ≡ is_ended t es
+ended_late opened t es found h = ended_in_both t es found ∙ or_false (is_ended t es) (is_ended t found) (unended_above opened t found h)
 
 ended_early : (first t : ℕ) (es found : Trail) → AreNumberedFrom first es → t < first → is_ended t (es ++ found) ≡ is_ended t found
 ended_early first t es found n h = ended_in_both t es found ∙ ap (λ b. b || is_ended t found) (unended_below first t es n h)
@@ -196,12 +196,12 @@ none_committed f base q (e ∷ es) ends none =
 -- ---- opening again
 
 -- the value over both parts is the one over the newer part, where that holds what is committed
-same_value : (le lf fe ff : Option Cell) (v : Cell) → unwrap_or le (unwrap_or fe (unwrap_or lf (unwrap_or ff Empty))) ≡ v
-    → (le ≡ None → v ≡ unwrap_or lf (unwrap_or ff Empty)) → unwrap_or (option_or le lf) (unwrap_or (option_or ff fe) Empty) ≡ v
-same_value (Some x) lf fe ff v is bare = is
-same_value None (Some y) fe ff v is bare = sym (bare refl)
-same_value None None fe (Some z) v is bare = sym (bare refl)
-same_value None None fe None v is bare = is
+same_value : (le lf fe ff : Option Cell) (c v : Cell) → unwrap_or le (unwrap_or fe (unwrap_or lf (unwrap_or ff c))) ≡ v
+    → (le ≡ None → v ≡ unwrap_or lf (unwrap_or ff c)) → unwrap_or (option_or le lf) (unwrap_or (option_or ff fe) c) ≡ v
+same_value (Some x) lf fe ff c v is bare = is
+same_value None (Some y) fe ff c v is bare = sym (bare refl)
+same_value None None fe (Some z) c v is bare = sym (bare refl)
+same_value None None fe None c v is bare = is
 
 standing_as : (f : ℕ → Bool) (cell : Cell) (es : Trail) (q : ℕ) (l r : Option Cell) → last_after f q es ≡ l → first_before f q es ≡ r → standing_at f cell es q ≡ unwrap_or l (unwrap_or r cell)
 standing_as f cell es q l r is_l is_r = ap (λ o. unwrap_or o (unwrap_or (first_before f q es) cell)) is_l ∙ ap (λ o. unwrap_or l (unwrap_or o cell)) is_r
@@ -213,28 +213,52 @@ alone law base q es grown =
     law base base q [] es (subst (λ (t : Trail). IsGrown base t) (sym none) grown) (λ t h k. absurd (true≢false (sym h))) (λ h. refl)
     ∙ ap (λ (t : Trail). committed base t q) none
 
--- What a log stands for, whatever stands in it, is the base of what is committed by entries that came behind it: opening finds what
--- they committed over what it found before.
-pub opens_again : (law : OpeningFindsCommitted) (found entries : Trail) (q : ℕ) → IsGrown (standing no_cells found) entries
-    → AreNumberedFrom (next_number 1 found) entries → standing no_cells (entries ++ found) q ≡ committed (standing no_cells found) entries q
+-- What an image and a log stand for, whatever stands in them, is the base of what is committed by entries that came behind it:
+-- opening finds what they committed over what it found before. `opened` is the image's own next number.
+pub image_opens_again : (law : OpeningFindsCommitted) (image : Cells) (opened : ℕ) (found entries : Trail) (q : ℕ) → IsGrown (standing image found) entries
+    → AreNumberedFrom (next_number opened found) entries → standing image (entries ++ found) q ≡ committed (standing image found) entries q
 unfolding standing
-opens_again law found es q grown numbered =
+image_opens_again law image opened found es q grown numbered =
     let all = λ (t : ℕ). is_ended t (es ++ found) in
     let new = λ (t : ℕ). is_ended t es in
     let old = λ (t : ℕ). is_ended t found in
-    let n = next_number 1 found in
+    let n = next_number opened found in
     let last : last_after all q (es ++ found) ≡ option_or (last_after new q es) (last_after old q found) =
     last_joined all q es found
-    ∙ ap (λ o. option_or o (last_after all q found)) (late_last all new n q es numbered (λ t h. ended_late t es found h))
-    ∙ ap (option_or (last_after new q es)) (early_last all old 1 n q found (omega arith) (λ t h. ended_early n t es found numbered h)) in
+    ∙ ap (λ o. option_or o (last_after all q found)) (late_last all new n q es numbered (λ t h. ended_late opened t es found h))
+    ∙ ap (option_or (last_after new q es)) (early_last all old opened n q found (omega arith) (λ t h. ended_early n t es found numbered h)) in
     let first : first_before all q (es ++ found) ≡ option_or (first_before old q found) (first_before new q es) =
     first_joined all q es found
-    ∙ ap (λ o. option_or o (first_before all q es)) (early_first all old 1 n q found (omega arith) (λ t h. ended_early n t es found numbered h))
-    ∙ ap (option_or (first_before old q found)) (late_first all new n q es numbered (λ t h. ended_late t es found h)) in
-    standing_as all Empty (es ++ found) q (option_or (last_after new q es) (last_after old q found)) (option_or (first_before old q found) (first_before new q es)) last first
-    ∙ same_value (last_after new q es) (last_after old q found) (first_before new q es) (first_before old q found) (committed (standing no_cells found) es q)
-    (alone law (standing no_cells found) q es grown)
-    (λ h. none_committed new (standing no_cells found) q es (λ t k. k) h)
+    ∙ ap (λ o. option_or o (first_before all q es)) (early_first all old opened n q found (omega arith) (λ t h. ended_early n t es found numbered h))
+    ∙ ap (option_or (first_before old q found)) (late_first all new n q es numbered (λ t h. ended_late opened t es found h)) in
+    standing_as all (image q) (es ++ found) q (option_or (last_after new q es) (last_after old q found)) (option_or (first_before old q found) (first_before new q es)) last first
+    ∙ same_value (last_after new q es) (last_after old q found) (first_before new q es) (first_before old q found) (image q) (committed (standing image found) es q)
+    (alone law (standing image found) q es grown)
+    (λ h. none_committed new (standing image found) q es (λ t k. k) h)
+
+pub opens_again : (law : OpeningFindsCommitted) (found entries : Trail) (q : ℕ) → IsGrown (standing no_cells found) entries
+    → AreNumberedFrom (next_number 1 found) entries → standing no_cells (entries ++ found) q ≡ committed (standing no_cells found) entries q
+opens_again law found es q grown numbered = image_opens_again law no_cells 1 found es q grown numbered
+
+-- An image of which a place was copied at a moment behind its scan position: `older` are the entries before that position, `middle` those
+-- up to the copy, `newer` those behind it, as many as a crash leaves. It opens with what all of them committed. So two images that
+-- were completed open alike with each prefix that has the entries up to both.
+pub copied_image_opens : (law : OpeningFindsCommitted) (copies : CheckpointsOpen) (base image : Cells) (q : ℕ) (newer middle older : Trail) → IsGrown base ((newer ++ middle) ++ older)
+    → has_mark middle ≡ false → ((t : ℕ) → is_live t older ≡ true → touched t q older ≡ true → is_ended t (newer ++ middle) ≡ true) → image q ≡ current base (middle ++ older) q
+    → standing image (newer ++ middle) q ≡ committed base ((newer ++ middle) ++ older) q
+copied_image_opens law copies base image q newer middle older grown unmarked ended copied =
+    law base image q older (newer ++ middle) grown ended (λ h. copied ∙ copies.copied base q newer middle older unmarked h)
+
+pub either_image_opens : (law : OpeningFindsCommitted) (copies : CheckpointsOpen) (base : Cells) (image : ℕ → Cells) (q : ℕ) (newer middle older : ℕ → Trail)
+    → (newer 0 ++ middle 0) ++ older 0 ≡ (newer 1 ++ middle 1) ++ older 1
+    → ((f : ℕ) → IsGrown base ((newer f ++ middle f) ++ older f)) → ((f : ℕ) → has_mark (middle f) ≡ false)
+    → ((f t : ℕ) → is_live t (older f) ≡ true → touched t q (older f) ≡ true → is_ended t (newer f ++ middle f) ≡ true)
+    → ((f : ℕ) → image f q ≡ current base (middle f ++ older f) q)
+    → standing (image 0) (newer 0 ++ middle 0) q ≡ standing (image 1) (newer 1 ++ middle 1) q
+either_image_opens law copies base image q newer middle older one_trail grown unmarked ended copied =
+    copied_image_opens law copies base (image 0) q (newer 0) (middle 0) (older 0) (grown 0) (unmarked 0) (ended 0) (copied 0)
+    ∙ ap (λ (t : Trail). committed base t q) one_trail
+    ∙ sym (copied_image_opens law copies base (image 1) q (newer 1) (middle 1) (older 1) (grown 1) (unmarked 1) (ended 1) (copied 1))
 
 -- ---- the first entries of them
 

@@ -1,5 +1,8 @@
 pub mod Laws
-pub mod Numbers
 pub mod Opening
 pub mod Recoveries
 pub mod Replays
+pub mod VolumeLaws
+pub mod Volumes
+pub mod WalkLaws
+pub mod ModelLaws

@@ -3,9 +3,11 @@
 
 mod progress;
 mod recovery;
+mod refusal;
 mod replay;
 #[cfg(test)]
 mod tests;
 
 pub use recovery::{Recovered, recover};
+pub use refusal::OpenRefusal;
 pub use replay::{FoundRow, Replay};

@@ -1,5 +1,5 @@
 -- How a run begins.
-use Rattle.std.proofs.Common.{◌≡◌, ◌⊎◌, inl, inr, ◌^◌, ◌+◌, ◌<◌, ◌≤◌, ◌∙◌, ℕ, [], List, length, Option, Some, None, Result, Ok, Err, refl, sym, ap, ap₂, subst, arith}
+use Rattle.std.proofs.Common.{◌≡◌, ◌⊎◌, inl, inr, ◌^◌, ◌<◌, ◌≤◌, ◌∙◌, ℕ, [], List, length, Option, Some, None, Result, Ok, Err, refl, sym, ap, ap₂, subst, arith}
 use Rattle.std.specs.Prelude.{IfSome, IsSome, option_map, take}
 use Rattle.tt_flow.specs.Script.{ended_lines, script_most}
 use Rattle.tt_disk.specs.Volume.{Keeps, size_of}
@@ -10,17 +10,16 @@ use Rattle.tt_value.specs.declared.position.Position.{Position}
 use Rattle.tt_set.specs.declared.settings.Settings.{Settings}
 use Rattle.tt_log.specs.declared.refusal.LogRefusal.{LogRefusal}
 use Rattle.tt_log.specs.declared.refusal.LogRefusal.TheVariants.{Gap}
-use Rattle.tt_log.specs.Walk.{Files, Found as Read, file_read, log_of, nothing, on_part}
+use Rattle.tt_log.specs.Walk.{Files, Found as Read, log_of, nothing}
 use Rattle.tt_log.specs.Logs.{LeavesThis, MayLeave}
-use Rattle.tt_log.proofs.Following.{log_step}
 use Rattle.tt_model.specs.Found.{Found}
 use Rattle.tt_model.specs.State.{State, with_entry}
 use Rattle.tt_record.specs.Places.{position}
 use Rattle.tt_model.specs.Trail.{Trail}
 use Rattle.tt_recover.specs.Opening.{found_by, found_in, newest_first, opening}
-use Rattle.tt_engine.specs.OpeningLaws.{database_opens, found_is, read_is}
+use Rattle.tt_engine.specs.OpeningLaws.{database_found, database_opens, found_is, no_file, read_is, there}
 use Rattle.tt_engine.specs.Prefixes.{IsSinceOpening, IsStill, opens, or_none}
-use Rattle.tt_engine.specs.LogTrail.{ChangesFrom}
+use Rattle.tt_journal.specs.LogTrail.{ChangesFrom}
 use Rattle.tt_engine.specs.Starts.{begun_over, database, opened_in}
 use Rattle.tt_model.specs.Run.{begun}
 use Rattle.tt_engine.specs.declared.refusal.OpenRefusal.{OpenRefusal}
@@ -30,29 +29,6 @@ use Rattle.tt_run.specs.Openings.{EndedEarly, HasNewDatabase, IsBeforeLines, IsC
 use Rattle.tt_run.specs.Loops.{IsRunEnd}
 use Rattle.tt_run.specs.Runs.{IsRun, IsRunFrom}
 use Rattle.tt_run.proofs.RunLemmas.{Outcomes, run_changes, run_still, run_under}
-
--- ---- the first log file
-
-no_file : (files : Files) → files (LogFile 0) ≡ None → log_of 0 files ≡ Err (Gap 0)
-unfolding file_read
-no_file files none = log_step 0 files (omega arith) ∙ ap (λ (o : Option (List ℕ)). on_part 0 (file_read 0 o) (log_of (0 + 1) files)) none
-
-pub record IsThere (files : Files) : Type 0 where
-  pub file : List ℕ
-  pub is : files (LogFile 0) ≡ Some file
-
-there : (files : Files) (read : Read) → log_of 0 files ≡ Ok read → IsThere files
-there files read is = by (files (LogFile 0)) refl
-  where
-    by : (o : Option (List ℕ)) → files (LogFile 0) ≡ o → IsThere files
-    by (Some file) same = record { file = file; is = same }
-    by None same = let refused : log_of 0 files ≡ Err (Gap 0) = no_file files same in cc
-
-pub database_found : (files : Files) (found : Found) → opening files ≡ Ok found → database files ≡ Ok found
-database_found files found is =
-    let read = read_is files found is in
-    let file = there files read.read read.is in
-    ap₂ opened_in file.is is
 
 -- a database that is refused is one whose log is damaged
 pub record IsDamagedLog (files : Files) : Type 0 where
@@ -79,7 +55,7 @@ unfolding opening
 opens_new files is = ap (λ (r : Result Read LogRefusal). or_none (found_in r)) is
 
 pub new_made : (now : Files) (may : Outcomes) → log_of 0 now ≡ Ok nothing → ((k : ℕ) → 0 < k → k < 2 ^ 32 → now (LogFile k) ≡ None) → LeavesThis 0 (Ok nothing) may → HasNewDatabase now may
-new_made now may made alone leaves = (database_new now made, alone, (new_database, opens_new now made, λ files left. opens_new files (leaves files left)))
+new_made now may made alone leaves = (database_new now made, alone, (new_database, opens_new now made, λ files left. opens_new files (leaves files left) ∙ sym (opens_new now made)))
 
 -- a file that was sized and isn't there
 pub no_size : (o : Option (List ℕ)) → None ≡ option_map length o → o ≡ None
@@ -214,3 +190,12 @@ script_run_cause Exists script sink logs ends = absurd ends
 script_run_cause AttributesFault script sink logs ends = absurd ends
 script_run_cause (BadAttribute name) script sink logs ends = absurd ends
 script_run_cause _ script sink logs ends = ends
+
+-- a run whose lines were begun didn't end before them
+pub not_before_lines : (status : Status) (unplaced script sink logs : Type 0) → IsRunEnd status script sink logs → IsBeforeLines status unplaced → ⊥
+not_before_lines Done unplaced script sink logs ends before = before
+not_before_lines ScriptTooLong unplaced script sink logs ends before = before
+not_before_lines ScriptFault unplaced script sink logs ends before = before
+not_before_lines SinkFault unplaced script sink logs ends before = before
+not_before_lines (VolumeFault stop) unplaced script sink logs ends before = before
+not_before_lines _ unplaced script sink logs ends before = ends

@@ -1,3 +1,4 @@
+pub mod ChainLaws
 pub mod Loops
 pub mod Openings
 pub mod Replies

@@ -12,7 +12,8 @@ use Rattle.tt_model.specs.State.{State}
 use Rattle.tt_engine.specs.declared.engine.Engine.{Engine}
 use Rattle.tt_engine.specs.declared.request.Request.{Request}
 use Rattle.tt_engine.specs.Engines.{EndCallsLog, Stands}
-use Rattle.tt_engine.specs.Prefixes.{IsOnward, LeavesOpening}
+use Rattle.tt_engine.specs.Prefixes.{LeavesOpening}
+use Rattle.tt_journal.specs.Onward.{IsOnward}
 use Rattle.tt_engine.specs.Requests.{script_ended}
 use Rattle.tt_disk.specs.declared.volume.Failed.{Failed}
 use Rattle.tt_run.specs.declared.top_call.NextLine.{NextLine}

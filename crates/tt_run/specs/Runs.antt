@@ -10,8 +10,9 @@ use Rattle.tt_log.specs.Walk.{Files}
 use Rattle.tt_model.specs.State.{State, write_position}
 use Rattle.tt_engine.specs.declared.request.Request.{Request}
 use Rattle.tt_engine.specs.Engines.{CallsLog, EndCallsLog}
-use Rattle.tt_engine.specs.LogTrail.{ChangesFrom, HasFiles, IsQuiet}
-use Rattle.tt_engine.specs.Prefixes.{IsOnward, IsStill, LeavesOpening, LogsAreSettled, OpensForced}
+use Rattle.tt_journal.specs.LogTrail.{ChangesFrom, HasFiles, IsQuiet}
+use Rattle.tt_engine.specs.Prefixes.{IsStill, LeavesOpening, LogsAreSettled, OpensForced}
+use Rattle.tt_journal.specs.Onward.{IsOnward}
 use Rattle.tt_engine.specs.Requests.{Answers, answer, script_ended}
 use Rattle.tt_run.specs.declared.status.Status.{Status}
 use Rattle.tt_run.specs.declared.status.Status.TheVariants.{Done, ScriptFault, SinkFault, VolumeFault, ScriptTooLong}

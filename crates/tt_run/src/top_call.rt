@@ -10,7 +10,7 @@ ghost use Rattle.tt_log.specs.Logs.{IsOpen, LeavesForced};
 ghost use Rattle.tt_model.specs.Found.{Found};
 ghost use Rattle.tt_model.specs.State.{State, write_position};
 ghost use Rattle.tt_engine.specs.Engines.{Stands};
-ghost use Rattle.tt_engine.specs.LogTrail.{ChangesFrom};
+ghost use Rattle.tt_journal.specs.LogTrail.{ChangesFrom};
 ghost use Rattle.tt_engine.specs.Prefixes.{LogsAreSettled};
 ghost use Rattle.tt_engine.specs.Requests.{IsGiven};
 ghost use Rattle.tt_engine.specs.Starts.{begun_over, database};

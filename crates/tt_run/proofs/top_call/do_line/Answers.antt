@@ -31,24 +31,24 @@ pub returns-in-Err-step-clause-step : goal.returns-in-Err-step-clause-step
 returns-in-Err-step-clause-step g c = λ told first start bytes before s run.
     let next = subst (λ (r : Result NextLine Failed). IsNext bytes run.lines r c.next_line.new.reader (g.S.Source.left c.next_line.new.script)) (c.in-Ok-Asks.is ∙ ap (λ (n : NextLine). Ok n) c.in-Ok-Asks.field-0-is) (c.next_line.ensures.read bytes run.lines run.given) in
     failed_line g.L.Volume.now g.L.Volume.may first start bytes (g.S.Source.left c.args.script.now) (g.S.Source.left c.next_line.new.script) before (g.K.Sink.given c.args.sink.now) c.args.reader.now c.next_line.new.reader c.args.engine.now (record { state = s; logs = c.args.logs.now }) c.step.new.logs
-    c.in-Ok-Asks.request run next (c.in-Err-step.ensures.fails told s run.stands) (c.step.ensures.onward told s run.stands) (c.step.ensures.others told s run.stands) (c.in-Err-step.ensures.crash told s run.stands)
+    c.in-Ok-Asks.request run next (record { moves = ((c.in-Err-step.ensures.steps told).stopped s run.stands).breaks.moves }) ((c.in-Err-step.ensures.steps told).stopped s run.stands).breaks.onward ((c.in-Err-step.ensures.steps told).stopped s run.stands).breaks.others ((c.in-Err-step.ensures.steps told).stopped s run.stands).leaves
 
 pub returns-in-Ok-put_reply-clause-step : goal.returns-in-Ok-put_reply-clause-step
 returns-in-Ok-put_reply-clause-step g c = λ told first start bytes before s run.
     let next = subst (λ (r : Result NextLine Failed). IsNext bytes run.lines r c.next_line.new.reader (g.S.Source.left c.next_line.new.script)) (c.in-Ok-Asks.is ∙ ap (λ (n : NextLine). Ok n) c.in-Ok-Asks.field-0-is) (c.next_line.ensures.read bytes run.lines run.given) in
-    let so = c.in-Ok.ensures.answers told s run.stands in
+    let so = (c.in-Ok.ensures.steps told).done s run.stands in
     let running = goes_on g.L.Volume.now g.L.Volume.may first start bytes (g.S.Source.left c.args.script.now) (g.S.Source.left c.next_line.new.script) before (g.K.Sink.given c.args.sink.now) (g.K.Sink.given c.put_reply.new.sink) c.args.reader.now c.next_line.new.reader
     c.args.engine.now c.step.new.self (record { state = s; logs = c.args.logs.now }) (record { state = so.after; logs = c.step.new.logs }) c.in-Ok-Asks.request c.in-Ok.reply run next
-    (has_moved g.L.Volume.now g.L.Volume.may c.args.engine.now (record { state = s; logs = c.args.logs.now }) c.step.new.self c.in-Ok-Asks.request c.in-Ok.reply c.step.new.logs so (c.step.ensures.others told s run.stands) (c.in-Ok.ensures.kept told)
+    (has_moved g.L.Volume.now g.L.Volume.may c.args.engine.now (record { state = s; logs = c.args.logs.now }) c.step.new.self c.in-Ok-Asks.request c.in-Ok.reply c.step.new.logs so
     (c.opens_after_crash.ensures.forced told) (c.opens_after_crash.ensures.settled told)) c.in-Ok-put_reply.ensures.whole in
     (so.after, running)
 
 pub returns-in-Err-put_reply-clause-step : goal.returns-in-Err-put_reply-clause-step
 returns-in-Err-put_reply-clause-step g c = λ told first start bytes before s run.
     let next = subst (λ (r : Result NextLine Failed). IsNext bytes run.lines r c.next_line.new.reader (g.S.Source.left c.next_line.new.script)) (c.in-Ok-Asks.is ∙ ap (λ (n : NextLine). Ok n) c.in-Ok-Asks.field-0-is) (c.next_line.ensures.read bytes run.lines run.given) in
-    let so = c.in-Ok.ensures.answers told s run.stands in
+    let so = (c.in-Ok.ensures.steps told).done s run.stands in
     let (n, part) = c.in-Err-put_reply.ensures.prefix in
     failed_put g.L.Volume.now g.L.Volume.may first start bytes (g.S.Source.left c.args.script.now) (g.S.Source.left c.next_line.new.script) before (g.K.Sink.given c.args.sink.now) (g.K.Sink.given c.put_reply.new.sink) c.args.reader.now c.next_line.new.reader
     c.args.engine.now c.step.new.self (record { state = s; logs = c.args.logs.now }) (record { state = so.after; logs = c.step.new.logs }) c.in-Ok-Asks.request c.in-Ok.reply n run next
-    (has_moved g.L.Volume.now g.L.Volume.may c.args.engine.now (record { state = s; logs = c.args.logs.now }) c.step.new.self c.in-Ok-Asks.request c.in-Ok.reply c.step.new.logs so (c.step.ensures.others told s run.stands) (c.in-Ok.ensures.kept told)
+    (has_moved g.L.Volume.now g.L.Volume.may c.args.engine.now (record { state = s; logs = c.args.logs.now }) c.step.new.self c.in-Ok-Asks.request c.in-Ok.reply c.step.new.logs so
     (c.opens_after_crash.ensures.forced told) (c.opens_after_crash.ensures.settled told)) part

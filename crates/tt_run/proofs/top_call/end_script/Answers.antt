@@ -3,17 +3,24 @@ use Rattle.tt_run.proofs.top_call.end_script.Goals as goal
 
 pub returns-in-Ok-clause-ends : goal.returns-in-Ok-clause-ends
 returns-in-Ok-clause-ends g c = λ told s stands.
-    let behind = c.in-Ok.ensures.stands told s stands in (
+    let behind = (c.in-Ok.ensures.ends told).stands s stands in
+    let written = (c.in-Ok.ensures.ends told).written s stands in (
       record {
         holds = record {
           files = behind.log.files;
           opens = c.opens_after_crash.ensures.forced told (script_ended s) behind;
-          settled_again = λ kept. c.opens_after_crash.ensures.settled told (script_ended s) behind (c.in-Ok.ensures.kept told kept);
+          settled_again = λ kept. c.opens_after_crash.ensures.settled told (script_ended s) behind (written.kept kept);
         };
-        quiet = c.in-Ok.ensures.quiet told s stands;
+        quiet = written.quiet;
       },
-      c.end.ensures.onward told s stands,
+      written.onward,
     )
 
+pub returns-in-Ok-clause-others : goal.returns-in-Ok-clause-others
+returns-in-Ok-clause-others g c = λ told s stands. ((c.in-Ok.ensures.ends told).written s stands).others
+
 pub returns-in-Err-clause-ends : goal.returns-in-Err-clause-ends
-returns-in-Err-clause-ends g c = λ told s stands. (c.in-Err.ensures.crash told s stands, c.in-Err.ensures.fails told s stands)
+returns-in-Err-clause-ends g c = λ told s stands. let stopped = (c.in-Err.ensures.ends told).stopped s stands in (stopped.leaves, record { moves = stopped.breaks.moves })
+
+pub returns-in-Err-clause-others : goal.returns-in-Err-clause-others
+returns-in-Err-clause-others g c = λ told s stands. ((c.in-Err.ensures.ends told).stopped s stands).breaks.others

@@ -1,6 +1,6 @@
 use Rattle.std.proofs.Common.{◌≡◌, ◌∙◌, inl, inr, refl, sym, subst, Ok, Err, Result}
 use Rattle.tt_engine.specs.Prefixes.{LogsAreSettled}
-use Rattle.tt_engine.specs.LogTrail.{ChangesFrom}
+use Rattle.tt_journal.specs.LogTrail.{ChangesFrom}
 use Rattle.tt_engine.specs.Starts.{begun_over}
 use Rattle.tt_model.specs.Found.{Found}
 use Rattle.tt_set.specs.declared.settings.Settings.{Settings}

@@ -1,19 +1,23 @@
 use Rattle.std.proofs.Common.{refl}
-use Rattle.tt_engine.proofs.OnwardLemmas.{all_onward}
-use Rattle.tt_engine.proofs.CommitLemmas.{stands_forced, state_opens}
+use Rattle.tt_journal.proofs.TrailLemmas.{none_forced}
+use Rattle.tt_engine.proofs.CommitLemmas.{stands_forced}
+use Rattle.tt_engine.proofs.DecidedLemmas.{state_opens}
 use Rattle.tt_engine.proofs.engine.Engine.end.Goals as goal
 
-pub returns-in-Ok-clause-stands : goal.returns-in-Ok-clause-stands
-returns-in-Ok-clause-stands g c told s h = stands_forced c.args.self.now _ _ _ s h refl refl refl refl refl (c.in-Ok.ensures.trail told s h.log)
+pub returns-in-Ok-clause-ends : goal.returns-in-Ok-clause-ends
+returns-in-Ok-clause-ends g c told = record {
+  ready = (c.in-Ok.ensures.performed told).ready;
+  stands = λ s h. record { log = ((c.in-Ok.ensures.performed told).written s h.log).stands; memory = stands_forced c.args.self.now.memory c.args.self.now.memory s h.memory refl refl refl refl refl };
+  written = λ s h. (c.in-Ok.ensures.performed told).written s h.log;
+  stopped = λ s h. tt;
+}
 
-pub returns-in-Err-clause-crash : goal.returns-in-Err-clause-crash
-returns-in-Err-clause-crash g c told s h kept = state_opens c.args.self.now _ s (g.L.Volume.may c.force.new.volume) c.laws.ensures h (c.force.ensures.crash told s h.log kept)
-
-pub returns-in-Ok-clause-onward : goal.returns-in-Ok-clause-onward
-returns-in-Ok-clause-onward g c told s h = all_onward s h.log.bounds.1
-
-pub returns-in-Err-clause-onward : goal.returns-in-Err-clause-onward
-returns-in-Err-clause-onward g c told s h = all_onward s h.log.bounds.1
-
-pub returns-in-Err-clause-fails : goal.returns-in-Err-clause-fails
-returns-in-Err-clause-fails g c told s h = record { moves = λ q. c.in-Err.ensures.fails told s h.log q }
+pub returns-in-Err-clause-ends : goal.returns-in-Err-clause-ends
+returns-in-Err-clause-ends g c told = record {
+  ready = tt;
+  stands = λ s h. tt;
+  written = λ s h. tt;
+  stopped = λ s h.
+      let b = (c.in-Err.ensures.performed told).broken s h.log in
+      record { leaves = λ k. state_opens c.args.self.now _ s (g.L.Volume.may c.write.new.volume) c.laws.ensures h (none_forced s.forced s (g.L.Volume.may c.write.new.volume) (b.crash k)); breaks = b };
+}

@@ -1,13 +1,19 @@
-use Rattle.tt_engine.proofs.OnwardLemmas.{advanced, answer_onward}
+use Rattle.tt_journal.specs.SameLaws.{ends_of}
+use Rattle.tt_engine.proofs.DecidedLemmas.{decided_advances, decided_stops}
 use Rattle.tt_engine.proofs.engine.Engine.step.Goals as goal
 
-pub returns-in-Ok-clause-answers : goal.returns-in-Ok-clause-answers
-returns-in-Ok-clause-answers g c told s h =
-    advanced c.laws.ensures.forced c.args.request s c.in-Ok.reply c.answer.new.self (g.L.Volume.now c.answer.new.logs) _ h.log.bounds.1 (c.in-Ok.ensures.answers told s h)
-    (λ q. c.in-Ok.ensures.quiet told s h q) (λ is. c.in-Ok.ensures.wanting is)
+pub returns-in-Ok-clause-steps : goal.returns-in-Ok-clause-steps
+returns-in-Ok-clause-steps g c told = record {
+  ready = (c.in-Ok.ensures.performed told).ready;
+  done = λ s h. decided_advances g.L.Volume.now g.L.Volume.may c.args.self.now _ c.args.logs.now c.write.new.volume s c.args.request c.decide-reply.result
+      (c.decide-reply.ensures.decided s (ends_of c.args.self.now.log (g.L.Volume.now c.args.logs.now) s h.log) h.memory) ((c.in-Ok.ensures.performed told).written s h.log);
+  stopped = λ s h. tt;
+}
 
-pub returns-in-Ok-clause-onward : goal.returns-in-Ok-clause-onward
-returns-in-Ok-clause-onward g c told s h = answer_onward c.laws.ensures.forced c.args.request s h.log.bounds.1
-
-pub returns-in-Err-clause-onward : goal.returns-in-Err-clause-onward
-returns-in-Err-clause-onward g c told s h = answer_onward c.laws.ensures.forced c.args.request s h.log.bounds.1
+pub returns-in-Err-clause-steps : goal.returns-in-Err-clause-steps
+returns-in-Err-clause-steps g c told = record {
+  ready = tt;
+  done = λ s h. tt;
+  stopped = λ s h. decided_stops g.L.Volume.now g.L.Volume.may c.laws.ensures c.args.self.now (record { log = c.write.new.log; memory = c.decide-reply.new.self }) c.args.logs.now c.write.new.volume s c.args.request c.decide-reply.result h
+      (c.decide-reply.ensures.decided s (ends_of c.args.self.now.log (g.L.Volume.now c.args.logs.now) s h.log) h.memory) ((c.in-Err.ensures.performed told).broken s h.log);
+}

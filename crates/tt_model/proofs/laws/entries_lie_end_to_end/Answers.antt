@@ -1,0 +1,5 @@
+use Rattle.tt_model.proofs.laws.entries_lie_end_to_end.Goals as goal
+use Rattle.tt_model.proofs.EndToEndLemmas
+
+pub returns : goal.returns
+returns c = EndToEndLemmas.entries_lie

@@ -1,0 +1,9 @@
+mod ConditionRuns
+mod DamageExamples
+mod DeskExample
+mod ExampleWords
+mod Examples
+mod InsertRuns
+mod InsertedRows
+mod LargeExamples
+mod LineExamples
