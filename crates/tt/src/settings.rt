@@ -1,4 +1,4 @@
-// The file with the settings of a database.
+//! The file with the settings of a database, as a source of attributes; where it isn't there, it gives no byte.
 use std::alloc::{AllocError, Global};
 use std::fs::{self, File};
 use std::io::{self, ErrorKind, Read};

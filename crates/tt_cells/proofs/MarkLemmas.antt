@@ -3,7 +3,8 @@ use Rattle.std.proofs.Common.{◌≡◌, ◌≤◌, ◌<◌, ◌+◌, ◌*◌, �
 use Rattle.std.specs.FinSet as finite
 use Rattle.std.specs.Ordering.{nat_cmp}
 use Rattle.std.proofs.lemmas.Bool.{cases_eq, true≢false}
-use Rattle.tt_cells.specs.Numbers.{Numbers, HasAllBelow, IsLeastAbsent, IsFullWord, MarksFull}
+use Rattle.tt_cells.specs.NumberSet.{Numbers, HasAllBelow, IsLeastAbsent}
+use Rattle.tt_cells.specs.PlaceSet.{IsFullWord, MarksFull}
 use Rattle.tt_cells.specs.NumberLaws.{Set, In, inserted, insert_here, insert_keeps, removed, remove_keeps}
 
 either : {A B C : Type 0} → A ⊎ B → (A → C) → (B → C) → C

@@ -4,8 +4,8 @@ use Rattle.std.specs.List.{All, flat_map}
 use Rattle.std.specs.Coded.{Coded, code_by, coded×, coded_ℕ, coded_list}
 use Rattle.tt_cells.specs.declared.cells.PageCopy.{PageCopy}
 use Rattle.tt_cells.specs.Limits.{PAGE_BYTES, COPIES_MOST}
-use Rattle.tt_cells.specs.CellBytes.{page_bytes}
-use Rattle.tt_cells.specs.Book.{Book, cell_at, page_cells}
+use Rattle.tt_cells.specs.Page.{page_bytes}
+use Rattle.tt_cells.specs.Cells.{Book, cell_at, page_cells}
 
 pub record Copies : Type 0 where
   -- how many there may be

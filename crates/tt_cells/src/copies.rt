@@ -5,7 +5,7 @@
 //! other, in ascending order, and hands the whole to the writer, which asks for the bytes of each run
 //! of pages. No call but `new` takes memory.
 ghost use Rattle.std.specs.Prelude.{◌≡◌, ◌<◌, ◌≤◌, ◌+◌, ◌*◌, ◌++◌, length, take, drop, set, slice_index, IfOk};
-ghost use Rattle.tt_cells.specs.Book.{without_stale};
+ghost use Rattle.tt_cells.specs.Cells.{without_stale};
 ghost use Rattle.tt_cells.specs.Copies.{AreSound, copy_of, joined, no_copies, numbered, pages_of, put_at, with_copy};
 
 use crate::cells::Cells;

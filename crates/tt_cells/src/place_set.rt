@@ -1,7 +1,7 @@
-// The reserved places, with a mark for each full word of them.
+//! The reserved places, with a mark for each full word of them, so that the least free one is found by looking at marks.
 ghost use Rattle.std.specs.Prelude.{◌≡◌, ◌<◌, ◌≤◌, ◌+◌, if◌then◌else◌, OnOk, OnErr};
 ghost use Rattle.std.specs.FinSet as set;
-ghost use Rattle.tt_cells.specs.Numbers.{IsLeastAbsent};
+ghost use Rattle.tt_cells.specs.NumberSet.{IsLeastAbsent};
 
 use crate::PLACES_END;
 use crate::number_set::NumberSet;
@@ -16,7 +16,8 @@ pub(crate) struct PlaceSet {
 }
 
 impl Model for PlaceSet {
-    ghost use Rattle.tt_cells.specs.Numbers.{Numbers, numbers_code, MarksFull};
+    ghost use Rattle.tt_cells.specs.NumberSet.{Numbers, numbers_code};
+    ghost use Rattle.tt_cells.specs.PlaceSet.{MarksFull};
 
     ghost Value = { Numbers };
 

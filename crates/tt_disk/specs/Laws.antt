@@ -1,9 +1,9 @@
 -- What a write that was done in part leaves of a file in pieces, how steps follow each other, and what stays of a count.
-use Rattle.std.proofs.Common.{◌≡◌, inl, inr, ℕ, ◌+◌, ◌≤◌, List, ◌++◌, length, take, drop, Option, Some, None, Ok, IsErrOf, refl, sym, ◌∙◌, ap, subst, arith, append_assoc, length-append, length-drop, take-append-drop}
+use Rattle.std.proofs.Common.{◌≡◌, inl, inr, ℕ, ◌+◌, ◌≤◌, List, ◌++◌, length, take, drop, Some, None, Ok, IsErrOf, refl, sym, ◌∙◌, ap, subst, arith, append_assoc, length-append, length-drop, take-append-drop}
 use Rattle.std.proofs.lemmas.List.{take_at, drop_at, take-take, drop-drop, length-take}
-use Rattle.tt_disk.specs.Causes.{RoseWhere, Stays}
+use Rattle.tt_disk.specs.Faults.{RoseWhere, Stays}
 use Rattle.tt_disk.specs.declared.volume.Name.{Name}
-use Rattle.tt_disk.specs.Volume.{overwritten, TornBytes, Torn, Steps, Keeps, IsSettled}
+use Rattle.tt_disk.specs.Volume.{File, Files, Outcomes, overwritten, TornBytes, Torn, Steps, Keeps, OnlyAt, IsSettled}
 
 -- what stands before the range stays
 pub front_stays : (p rest c : List ℕ) (at n : ℕ) → length p ≤ at → TornBytes at n (p ++ rest) c → c ≡ p ++ drop (length p) c
@@ -45,24 +45,19 @@ end_written p q bytes at is_at =
     ap (λ (l : List ℕ). l ++ bytes ++ drop (at + length bytes) (p ++ q)) front ∙ ap (λ (l : List ℕ). p ++ bytes ++ l) back ∙ append_assoc p bytes (drop (length bytes) q)
 
 -- a torn step of a file that is there leads to a file that is there
-pub torn_there : {P : Type 0} (at n : ℕ) (old : List ℕ) (c : Option (List ℕ)) → Torn at n (Some old) c → ((f : List ℕ) → c ≡ Some f → TornBytes at n old f → P) → P
+pub torn_there : {P : Type 0} (at n : ℕ) (old : List ℕ) (c : File) → Torn at n (Some old) c → ((f : List ℕ) → c ≡ Some f → TornBytes at n old f → P) → P
 torn_there at n old (Some f) torn then = then f refl torn
 torn_there at n old None torn then = absurd torn
 
--- All but one file is as it was, and a crash leaves of the others nothing that it couldn't have left before.
-pub record OnlyAt (name : Name) (old new : Name → Option (List ℕ)) (may_old may_new : Name → Option (List ℕ) → Type 0) : Type 0 where
-  pub reads : (n : Name) → ¬ (n ≡ name) → new n ≡ old n
-  pub crash : (n : Name) → ¬ (n ≡ name) → (c : Option (List ℕ)) → may_new n c → may_old n c
-
 -- How what one call did and what the next one did make what both did.
 
-pub keeps_then_keeps : (a b c : Name → Option (List ℕ)) (may_a may_b may_c : Name → Option (List ℕ) → Type 0) → Keeps a b may_a may_b → Keeps b c may_b may_c → Keeps a c may_a may_c
+pub keeps_then_keeps : (a b c : Files) (may_a may_b may_c : Outcomes) → Keeps a b may_a may_b → Keeps b c may_b may_c → Keeps a c may_a may_c
 keeps_then_keeps a b c may_a may_b may_c one two = record {
   reads = λ n. two.reads n ∙ one.reads n;
   crash = λ n file left. one.crash n file (two.crash n file left);
 }
 
-pub only_at_then_only_at : (name : Name) (a b c : Name → Option (List ℕ)) (may_a may_b may_c : Name → Option (List ℕ) → Type 0)
+pub only_at_then_only_at : (name : Name) (a b c : Files) (may_a may_b may_c : Outcomes)
     → OnlyAt name a b may_a may_b → OnlyAt name b c may_b may_c → OnlyAt name a c may_a may_c
 only_at_then_only_at name a b c may_a may_b may_c one two = record {
   reads = λ n other. two.reads n other ∙ one.reads n other;
@@ -70,14 +65,14 @@ only_at_then_only_at name a b c may_a may_b may_c one two = record {
 }
 
 -- a call that changes no file changes no file but one
-pub keeps_only_at : (name : Name) (a b : Name → Option (List ℕ)) (may_a may_b : Name → Option (List ℕ) → Type 0) → Keeps a b may_a may_b → OnlyAt name a b may_a may_b
+pub keeps_only_at : (name : Name) (a b : Files) (may_a may_b : Outcomes) → Keeps a b may_a may_b → OnlyAt name a b may_a may_b
 keeps_only_at name a b may_a may_b keeps = record {
   reads = λ n other. keeps.reads n;
   crash = λ n other file left. keeps.crash n file left;
 }
 
--- nor does a step of that one
-pub steps_only_at : (step : Option (List ℕ) → Option (List ℕ) → Type 0) (name : Name) (a b : Name → Option (List ℕ)) (may_a may_b : Name → Option (List ℕ) → Type 0)
+-- a step of one file changes no file but that one
+pub steps_only_at : (step : File → File → Type 0) (name : Name) (a b : Files) (may_a may_b : Outcomes)
     → Steps step name a b may_a may_b → OnlyAt name a b may_a may_b
 steps_only_at step name a b may_a may_b steps = record {
   reads = steps.others;
@@ -85,10 +80,10 @@ steps_only_at step name a b may_a may_b steps = record {
 }
 
 -- a step before or behind a call that changes no file
-pub keeps_then_steps : (step : Option (List ℕ) → Option (List ℕ) → Type 0) (name : Name) (a b c : Name → Option (List ℕ)) (may_a may_b may_c : Name → Option (List ℕ) → Type 0)
+pub keeps_then_steps : (step : File → File → Type 0) (name : Name) (a b c : Files) (may_a may_b may_c : Outcomes)
     → Keeps a b may_a may_b → Steps step name b c may_b may_c → Steps step name a c may_a may_c
 keeps_then_steps step name a b c may_a may_b may_c keeps steps = record {
-  reads = subst (λ (o : Option (List ℕ)). step o (c name)) (keeps.reads name) steps.reads;
+  reads = subst (λ (o : File). step o (c name)) (keeps.reads name) steps.reads;
   crash = λ file left.
       let from = steps.crash file left in
       (from.0, keeps.crash name from.0 from.1, from.2);
@@ -96,20 +91,20 @@ keeps_then_steps step name a b c may_a may_b may_c keeps steps = record {
   others_crash = λ n other file left. keeps.crash n file (steps.others_crash n other file left);
 }
 
-pub steps_then_keeps : (step : Option (List ℕ) → Option (List ℕ) → Type 0) (name : Name) (a b c : Name → Option (List ℕ)) (may_a may_b may_c : Name → Option (List ℕ) → Type 0)
+pub steps_then_keeps : (step : File → File → Type 0) (name : Name) (a b c : Files) (may_a may_b may_c : Outcomes)
     → Steps step name a b may_a may_b → Keeps b c may_b may_c → Steps step name a c may_a may_c
 steps_then_keeps step name a b c may_a may_b may_c steps keeps = record {
-  reads = subst (λ (o : Option (List ℕ)). step (a name) o) (sym (keeps.reads name)) steps.reads;
+  reads = subst (λ (o : File). step (a name) o) (sym (keeps.reads name)) steps.reads;
   crash = λ file left. steps.crash file (keeps.crash name file left);
   others = λ n other. keeps.reads n ∙ steps.others n other;
   others_crash = λ n other file left. steps.others_crash n other file (keeps.crash n file left);
 }
 
 -- a file that is settled stays so over a call that changes no file, and over one that changes another file
-pub settled_kept : (name : Name) (a b : Name → Option (List ℕ)) (may_a may_b : Name → Option (List ℕ) → Type 0) → Keeps a b may_a may_b → IsSettled name a may_a → IsSettled name b may_b
+pub settled_kept : (name : Name) (a b : Files) (may_a may_b : Outcomes) → Keeps a b may_a may_b → IsSettled name a may_a → IsSettled name b may_b
 settled_kept name a b may_a may_b keeps settled file left = settled file (keeps.crash name file left) ∙ sym (keeps.reads name)
 
-pub settled_elsewhere : (name other : Name) (a b : Name → Option (List ℕ)) (may_a may_b : Name → Option (List ℕ) → Type 0)
+pub settled_elsewhere : (name other : Name) (a b : Files) (may_a may_b : Outcomes)
     → OnlyAt other a b may_a may_b → ¬ (name ≡ other) → IsSettled name a may_a → IsSettled name b may_b
 settled_elsewhere name other a b may_a may_b only differs settled file left =
     settled file (only.crash name differs file left) ∙ sym (only.reads name differs)

@@ -1,8 +1,11 @@
-pub mod Causes
-pub mod Effects
+pub mod Calls
+pub mod Failing
+pub mod Faults
+pub mod File
+pub mod Files
 pub mod Folder
 pub mod Laws
-pub mod Least
+pub mod Leave
 pub mod Memory
-pub mod Plans
+pub mod Steps
 pub mod Volume

@@ -1,4 +1,8 @@
-// A volume over a folder of the file system.
+//! A volume over a folder of the file system, a file of the folder for each name.
+//!
+//! `DirVolume` counts the faults; `Folder` makes the calls and says why they failed. A `sync` syncs the file and then the
+//! folder, which has its name; the folder itself is synced in the ones above it when `create` first needs it. The file that was
+//! used last is kept open, and let go where a call on it failed.
 ghost use Rattle.std.specs.Prelude.{◌≡◌, ◌≤◌, ◌+◌, ◌^◌, length, IfOk, IfSome, IsErr, OnOk, MatchResult};
 ghost use Rattle.std.specs.Io.{ReadsAtMost};
 
@@ -29,7 +33,7 @@ struct Folder {
     alloc: Global,
     path: String,
     // Whether a crash leaves the folder where it is.
-    is_settled: bool,
+    is_synced: bool,
     // The file that was used last.
     open: Option<OpenFile>,
 }
@@ -40,143 +44,104 @@ struct OpenFile {
     file: File,
 }
 
-fn file_name(alloc: Global, name: Name) -> Result<String, AllocError> {
-    match name {
-        Name::Ds(n) => format!(in alloc; "tt.ds{n}"),
-        Name::Log(n) => format!(in alloc; "tt.log{n}"),
-        Name::SetImage(n) => format!(in alloc; "tt.set{n}.image"),
-        Name::SetLog(n) => format!(in alloc; "tt.set{n}.log"),
+impl DirVolume {
+    ghost use Rattle.std.specs.Prelude.{ℕ};
+    ghost use Rattle.tt_disk.specs.Folder.{folder_of, or_current};
+
+    /// The volume over the folder of this path, with no faults. An empty path is the current folder. The file system
+    /// is not asked, so the folder need not be there. The only error is want of memory for the path.
+    pub fn new(rt: HostRuntime, alloc: Global, path: &str) -> Result<DirVolume, AllocError>
+        ensures folder { IfOk result (λ volume. folder_of volume ≡ or_current path.now) }
+        ensures faults { IfOk result (λ volume. ⟦<DirVolume as Volume>⟧.faults volume ≡ 0) }
+    {
+        let path = String::from_str(alloc, if path.is_empty() { "." } else { path })?;
+        let folder = Folder {
+            rt,
+            alloc,
+            path,
+            is_synced: false,
+            open: None,
+        };
+        Ok(DirVolume { folder, faults: 0 })
     }
 }
 
-// The number of the log whose file has exactly this name.
-fn log_number(alloc: Global, name: &str) -> Result<Option<u32>, AllocError> {
-    let Some(digits) = name.strip_prefix("tt.log") else {
-        return Ok(None);
-    };
-    let Ok(number) = digits.parse::<u32>() else {
-        return Ok(None);
-    };
-    let exact = file_name(alloc, Name::Log(number))?;
-    Ok(if exact.as_str() == name {
-        Some(number)
-    } else {
-        None
-    })
-}
+impl Volume for DirVolume {
+    ghost use Rattle.std.specs.Prelude.{None};
 
-// The least log so far, now that one of this number is there too.
-fn lesser_log(number: u32, from: u32, least: Option<u32>) -> Option<u32>
-    requires { IfSome least (λ n. from ≤ n) }
-    ensures { IfSome result (λ n. from ≤ n) }
-{
-    match least {
-        Some(other) if other <= number => least,
-        _ => if number >= from { Some(number) } else { least },
+    ghost told = { ⊥ };
+
+    ghost now = { λ _ _. None };
+
+    ghost may = { λ _ _ _. ⊥ };
+
+    ghost faults = { λ v. v.faults };
+
+    ghost exact = { Unit {0} };
+
+    ghost reads = { λ told. absurd told };
+
+    fn size(&mut self, name: Name) -> Result<Option<u64>, Failed> {
+        let answer = self.folder.size(name);
+        self.count_fault(answer)
+    }
+
+    fn next_log(&mut self, from: u32) -> Result<Option<u32>, Failed> {
+        let answer = self.folder.next_log(from);
+        self.count_fault(answer)
+    }
+
+    fn create(&mut self, name: Name) -> Result<(), Failed> {
+        let answer = self.folder.create(name);
+        self.count_fault(answer)
+    }
+
+    fn read_at(&mut self, name: Name, at: u64, buf: &mut [u8]) -> Result<usize, Failed> {
+        let answer = self.folder.read_at(name, at, buf);
+        self.count_fault(answer)
+    }
+
+    fn write_at(&mut self, name: Name, at: u64, bytes: &[u8]) -> Result<(), Failed> {
+        let answer = self.folder.write_at(name, at, bytes);
+        self.count_fault(answer)
+    }
+
+    fn sync(&mut self, name: Name) -> Result<(), Failed> {
+        let answer = self.folder.sync(name);
+        self.count_fault(answer)
+    }
+
+    fn remove(&mut self, name: Name) -> Result<(), Failed> {
+        let answer = self.folder.remove(name);
+        self.count_fault(answer)
     }
 }
 
-fn too_long() -> io::Error {
-    io::Error::from(ErrorKind::FileTooLarge)
-}
+impl DirVolume {
+    ghost use Rattle.tt_disk.specs.Faults.{HasCause};
 
-fn read_fully(file: &File, at: u64, buf: &mut [u8]) -> io::Result<usize>
-    ensures { ReadsAtMost result buf.new }
-{
-    let mut filled = 0;
-    for _ in 0..u64::MAX {
-        if filled >= buf.len() {
-            return Ok(filled);
+    // Counts a fault where the call failed, and hands its answer on without the error.
+    fn count_fault<T: Drop>(&mut self, answer: io::Result<T>) -> Result<T, Failed>
+        ensures answer { MatchResult answer (λ x. result ≡ Ok x) (λ _. IsErr result) }
+        ensures cause { HasCause (Unit {0}) self.old.faults self.new.faults result }
+    {
+        match answer {
+            Ok(value) => Ok(value),
+            Err(_) => {
+                self.faults = self.faults.saturating_add(1);
+                Err(Failed)
+            }
         }
-        match file.read_at(&mut buf[filled..], at.saturating_add(filled as u64)) {
-            Ok(0) => return Ok(filled),
-            Ok(n) => filled += n,
-            Err(error) if error.kind() == ErrorKind::Interrupted => {}
-            Err(error) => return Err(error),
-        }
     }
-    Err(io::Error::from(ErrorKind::Interrupted))
-}
-
-fn sync_folder(rt: &HostRuntime, path: &str) -> io::Result<()> {
-    fs::open(rt, path)?.sync_all()
-}
-
-// Makes a folder and those above it where they aren't there, and syncs each of them in the folder above it.
-fn make_folder(rt: &HostRuntime, path: &str) -> io::Result<()> {
-    for end in 1..=path.len() {
-        match path.split_at_checked(end) {
-            Some((folder, rest)) if rest.is_empty() || rest.starts_with('/') => settle_entry(
-                rt, folder,
-            )?,
-            _ => {}
-        }
-    }
-    Ok(())
-}
-
-// Makes this folder where it isn't there, and syncs its entry in the one above. A folder that was there lies perhaps
-// in one that this program may not open, or that its file system can't sync: then nothing was to be done.
-fn settle_entry(rt: &HostRuntime, folder: &str) -> io::Result<()> {
-    let is_new = match fs::create_dir(rt, folder) {
-        Ok(()) => true,
-        Err(_) if Path::new(folder).is_dir(rt) => false,
-        Err(error) => return Err(error),
-    };
-    let Some(above) = Path::new(folder).parent() else {
-        return Ok(());
-    };
-    let above = if above.as_str().is_empty() {
-        "."
-    } else {
-        above.as_str()
-    };
-    match sync_folder(rt, above) {
-        Ok(()) => Ok(()),
-        Err(error) => if !is_new && is_refusal(error.kind()) {
-            Ok(())
-        } else {
-            Err(error)
-        },
-    }
-}
-
-fn is_refusal(kind: ErrorKind) -> bool {
-    kind == ErrorKind::PermissionDenied || kind == ErrorKind::InvalidInput
 }
 
 impl Folder {
-    fn path_of(&self, name: Name) -> Result<String, AllocError> {
-        let folder = self.path.as_str();
-        let file = file_name(self.alloc, name)?;
-        format!(in self.alloc; "{folder}/{file}")
-    }
-
-    // The open file, which is handed back by `keep` unless a call on it failed.
-    fn take(&mut self, name: Name) -> io::Result<File> {
-        if let Some(open) = self.open.take() {
-            if open.name == name {
-                return Ok(open.file);
-            }
-        }
-        let path = self.path_of(name)?;
-        let mut how = OpenOptions::new();
-        how.read(true);
-        how.write(true);
-        how.open(&self.rt, path.as_str())
-    }
-
-    fn keep(&mut self, name: Name, file: File) {
-        self.open = Some(OpenFile { name, file });
-    }
-
     fn size(&self, name: Name) -> io::Result<Option<u64>>
         ensures { IfOk result (λ o. IfSome o (λ n. n ≤ 2 ^ 62)) }
     {
-        let path = self.path_of(name)?;
-        match fs::metadata(&self.rt, path.as_str()) {
-            Ok(found) => if found.len() <= LONGEST {
-                Ok(Some(found.len()))
+        match self.length_of(name) {
+            Ok(length) => if length <= LONGEST {
+                Ok(Some(length))
             } else {
                 Err(too_long())
             },
@@ -208,6 +173,93 @@ impl Folder {
         Ok(least)
     }
 
+    fn create(&mut self, name: Name) -> io::Result<()> {
+        self.open = None;
+        if !(self.is_synced && Path::new(self.path.as_str()).is_dir(&self.rt)) {
+            self.is_synced = false;
+            make_folder(&self.rt, self.path.as_str())?;
+            self.is_synced = true;
+        }
+        let path = self.path_of(name)?;
+        let mut how = OpenOptions::new();
+        how.read(true);
+        how.write(true);
+        how.create(true);
+        how.truncate(true);
+        let file = how.open(&self.rt, path.as_str())?;
+        self.keep_open(name, file);
+        Ok(())
+    }
+
+    fn read_at(&mut self, name: Name, at: u64, buf: &mut [u8]) -> io::Result<usize>
+        ensures { ReadsAtMost result buf.new }
+    {
+        let file = self.open_file(name)?;
+        let count = read_fully(&file, at, buf)?;
+        self.keep_open(name, file);
+        Ok(count)
+    }
+
+    fn write_at(&mut self, name: Name, at: u64, bytes: &[u8]) -> io::Result<()>
+        ensures { OnOk result (at + length bytes.now ≤ 2 ^ 62) }
+    {
+        let len = bytes.len() as u64;
+        if len > LONGEST || at > LONGEST - len {
+            return Err(too_long());
+        }
+        let file = self.open_file(name)?;
+        file.write_all_at(bytes, at)?;
+        self.keep_open(name, file);
+        Ok(())
+    }
+
+    fn sync(&mut self, name: Name) -> io::Result<()> {
+        let file = self.open_file(name)?;
+        file.sync_all()?;
+        sync_folder(&self.rt, self.path.as_str())?;
+        self.keep_open(name, file);
+        Ok(())
+    }
+
+    fn remove(&mut self, name: Name) -> io::Result<()> {
+        self.open = None;
+        let path = self.path_of(name)?;
+        fs::remove_file(&self.rt, path.as_str())
+    }
+
+    // The open file is asked itself, any other by its path.
+    fn length_of(&self, name: Name) -> io::Result<u64> {
+        if let Some(open) = &self.open {
+            if open.name == name {
+                return Ok(open.file.metadata()?.len());
+            }
+        }
+        let path = self.path_of(name)?;
+        Ok(fs::metadata(&self.rt, path.as_str())?.len())
+    }
+
+    fn path_of(&self, name: Name) -> Result<String, AllocError> {
+        path_in(self.alloc, self.path.as_str(), name)
+    }
+
+    // The file, open. It is handed back by `keep_open`, unless a call on it failed.
+    fn open_file(&mut self, name: Name) -> io::Result<File> {
+        if let Some(open) = self.open.take() {
+            if open.name == name {
+                return Ok(open.file);
+            }
+        }
+        let path = self.path_of(name)?;
+        let mut how = OpenOptions::new();
+        how.read(true);
+        how.write(true);
+        how.open(&self.rt, path.as_str())
+    }
+
+    fn keep_open(&mut self, name: Name, file: File) {
+        self.open = Some(OpenFile { name, file });
+    }
+
     // A name that isn't text is no log's.
     fn log_of(&self, entry: io::Result<DirEntry<HostRuntime>>) -> io::Result<Option<u32>> {
         match entry {
@@ -219,148 +271,112 @@ impl Folder {
             },
         }
     }
+}
 
-    fn create(&mut self, name: Name) -> io::Result<()> {
-        self.open = None;
-        if !(self.is_settled && Path::new(self.path.as_str()).is_dir(&self.rt)) {
-            self.is_settled = false;
-            make_folder(&self.rt, self.path.as_str())?;
-            self.is_settled = true;
-        }
-        let path = self.path_of(name)?;
-        let mut how = OpenOptions::new();
-        how.read(true);
-        how.write(true);
-        how.create(true);
-        how.truncate(true);
-        let file = how.open(&self.rt, path.as_str())?;
-        self.keep(name, file);
-        Ok(())
-    }
-
-    fn read_at(&mut self, name: Name, at: u64, buf: &mut [u8]) -> io::Result<usize>
-        ensures { ReadsAtMost result buf.new }
-    {
-        let file = self.take(name)?;
-        let count = read_fully(&file, at, buf)?;
-        self.keep(name, file);
-        Ok(count)
-    }
-
-    fn write_at(&mut self, name: Name, at: u64, bytes: &[u8]) -> io::Result<()>
-        ensures { OnOk result (at + length bytes.now ≤ 2 ^ 62) }
-    {
-        let len = bytes.len() as u64;
-        if len > LONGEST || at > LONGEST - len {
-            return Err(too_long());
-        }
-        let file = self.take(name)?;
-        file.write_all_at(bytes, at)?;
-        self.keep(name, file);
-        Ok(())
-    }
-
-    fn sync(&mut self, name: Name) -> io::Result<()> {
-        let file = self.take(name)?;
-        file.sync_all()?;
-        sync_folder(&self.rt, self.path.as_str())?;
-        self.keep(name, file);
-        Ok(())
-    }
-
-    fn remove(&mut self, name: Name) -> io::Result<()> {
-        self.open = None;
-        let path = self.path_of(name)?;
-        fs::remove_file(&self.rt, path.as_str())
+// The path of a file in this folder.
+fn path_in(alloc: Global, folder: &str, name: Name) -> Result<String, AllocError> {
+    match name {
+        Name::Ds(n) => format!(in alloc; "{folder}/tt.ds{n}"),
+        Name::Log(n) => format!(in alloc; "{folder}/tt.log{n}"),
+        Name::SetImage(n) => format!(in alloc; "{folder}/tt.set{n}.image"),
+        Name::SetLog(n) => format!(in alloc; "{folder}/tt.set{n}.log"),
     }
 }
 
-impl DirVolume {
-    ghost use Rattle.std.specs.Prelude.{ℕ};
-    ghost use Rattle.tt_disk.specs.Causes.{HasCause};
-    ghost use Rattle.tt_disk.specs.Folder.{folder_of, or_current};
+// The number of the log whose file has exactly this name.
+fn log_number(alloc: Global, name: &str) -> Result<Option<u32>, AllocError> {
+    let Some(digits) = name.strip_prefix("tt.log") else {
+        return Ok(None);
+    };
+    let Ok(number) = digits.parse::<u32>() else {
+        return Ok(None);
+    };
+    let exact = format!(in alloc; "{number}")?;
+    Ok(if exact.as_str() == digits {
+        Some(number)
+    } else {
+        None
+    })
+}
 
-    /// The volume over the folder of this path, with no faults. An empty path is the current folder. The file system
-    /// is not asked, so the folder need not be there. The only error is want of memory for the path.
-    pub fn new(rt: HostRuntime, alloc: Global, path: &str) -> Result<DirVolume, AllocError>
-        ensures folder { IfOk result (λ volume. folder_of volume ≡ or_current path.now) }
-        ensures faults { IfOk result (λ volume. ⟦<DirVolume as Volume>⟧.faults volume ≡ 0) }
-    {
-        let path = String::from_str(alloc, if path.is_empty() { "." } else { path })?;
-        let folder = Folder {
-            rt,
-            alloc,
-            path,
-            is_settled: false,
-            open: None,
-        };
-        Ok(DirVolume { folder, faults: 0 })
-    }
-
-    // The answer without its error, which is counted.
-    fn count<T: Drop>(&mut self, answer: io::Result<T>) -> Result<T, Failed>
-        ensures same { MatchResult answer (λ x. result ≡ Ok x) (λ _. IsErr result) }
-        ensures cause { HasCause (Unit {0}) self.old.faults self.new.faults result }
-    {
-        match answer {
-            Ok(value) => Ok(value),
-            Err(_) => {
-                self.faults = self.faults.saturating_add(1);
-                Err(Failed)
-            }
-        }
+// The least log so far, now that one of this number is there too.
+fn lesser_log(number: u32, from: u32, least: Option<u32>) -> Option<u32>
+    requires { IfSome least (λ n. from ≤ n) }
+    ensures { IfSome result (λ n. from ≤ n) }
+{
+    match least {
+        Some(other) if other <= number => least,
+        _ => if number >= from { Some(number) } else { least },
     }
 }
 
-impl Volume for DirVolume {
-    ghost use Rattle.std.specs.Prelude.{None};
-
-    ghost told = { ⊥ };
-
-    ghost now = { λ _ _. None };
-
-    ghost may = { λ _ _ _. ⊥ };
-
-    ghost faults = { λ v. v.faults };
-
-    ghost exact = { Unit {0} };
-
-    ghost reads = { λ told. absurd told };
-
-    fn size(&mut self, name: Name) -> Result<Option<u64>, Failed> {
-        let answer = self.folder.size(name);
-        self.count(answer)
+fn read_fully(file: &File, at: u64, buf: &mut [u8]) -> io::Result<usize>
+    ensures { ReadsAtMost result buf.new }
+{
+    let mut filled = 0;
+    for _ in 0..u64::MAX {
+        if filled >= buf.len() {
+            return Ok(filled);
+        }
+        match file.read_at(&mut buf[filled..], at.saturating_add(filled as u64)) {
+            Ok(0) => return Ok(filled),
+            Ok(n) => filled += n,
+            Err(error) if error.kind() == ErrorKind::Interrupted => {}
+            Err(error) => return Err(error),
+        }
     }
+    Err(io::Error::from(ErrorKind::Interrupted))
+}
 
-    fn next_log(&mut self, from: u32) -> Result<Option<u32>, Failed> {
-        let answer = self.folder.next_log(from);
-        self.count(answer)
-    }
+fn too_long() -> io::Error {
+    io::Error::from(ErrorKind::FileTooLarge)
+}
 
-    fn create(&mut self, name: Name) -> Result<(), Failed> {
-        let answer = self.folder.create(name);
-        self.count(answer)
+// Makes a folder and those above it where they aren't there, and syncs the folder above each.
+fn make_folder(rt: &HostRuntime, path: &str) -> io::Result<()> {
+    for end in 1..=path.len() {
+        match path.split_at_checked(end) {
+            Some((folder, rest)) if rest.is_empty() || rest.starts_with('/') => make_one_folder(
+                rt, folder,
+            )?,
+            _ => {}
+        }
     }
+    Ok(())
+}
 
-    fn read_at(&mut self, name: Name, at: u64, buf: &mut [u8]) -> Result<usize, Failed> {
-        let answer = self.folder.read_at(name, at, buf);
-        self.count(answer)
+// Makes this folder where it isn't there, and syncs the one above, which has its name. A folder that was there lies perhaps
+// in one that this program may not open, or that its file system can't sync: then nothing was to be done.
+fn make_one_folder(rt: &HostRuntime, folder: &str) -> io::Result<()> {
+    let is_new = match fs::create_dir(rt, folder) {
+        Ok(()) => true,
+        Err(_) if Path::new(folder).is_dir(rt) => false,
+        Err(error) => return Err(error),
+    };
+    let Some(above) = Path::new(folder).parent() else {
+        return Ok(());
+    };
+    let above = if above.as_str().is_empty() {
+        "."
+    } else {
+        above.as_str()
+    };
+    match sync_folder(rt, above) {
+        Ok(()) => Ok(()),
+        Err(error) => if !is_new && is_refusal(error.kind()) {
+            Ok(())
+        } else {
+            Err(error)
+        },
     }
+}
 
-    fn write_at(&mut self, name: Name, at: u64, bytes: &[u8]) -> Result<(), Failed> {
-        let answer = self.folder.write_at(name, at, bytes);
-        self.count(answer)
-    }
+fn sync_folder(rt: &HostRuntime, path: &str) -> io::Result<()> {
+    fs::open(rt, path)?.sync_all()
+}
 
-    fn sync(&mut self, name: Name) -> Result<(), Failed> {
-        let answer = self.folder.sync(name);
-        self.count(answer)
-    }
-
-    fn remove(&mut self, name: Name) -> Result<(), Failed> {
-        let answer = self.folder.remove(name);
-        self.count(answer)
-    }
+fn is_refusal(kind: ErrorKind) -> bool {
+    kind == ErrorKind::PermissionDenied || kind == ErrorKind::InvalidInput
 }
 
 #[cfg(test)]
@@ -409,8 +425,9 @@ mod tests {
         ] {
             fs::write(&rt, path, "stray")?;
         }
-        assert_eq!(rt; volume.next_log(0), Ok(Some(7)));
-        assert_eq!(rt; volume.next_log(8), Ok(None));
+        for (from, least) in [(0, Some(7)), (7, Some(7)), (8, None)] {
+            assert_eq!(rt; volume.next_log(from), Ok(least), "from {from}");
+        }
         volume.create(log)?;
         assert_eq!(rt; volume.size(log), Ok(Some(0)), "emptied");
         volume.remove(log)?;

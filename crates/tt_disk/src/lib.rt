@@ -6,7 +6,7 @@ mod memory;
 mod volume;
 
 pub use folder::DirVolume;
-pub use memory::MemVolume;
+pub use memory::{FailingCalls, MemVolume};
 pub use volume::{Failed, Name, Volume};
 
 // No file is longer, in bytes.

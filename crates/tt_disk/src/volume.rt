@@ -1,7 +1,10 @@
-// A volume as the layers above see it: what its files are, and what a crash may leave of each.
+//! A volume as the layers above see it: what its files are, and what a crash may leave of each.
+//!
+//! A file is created, written and synced, and then a crash leaves it as it reads. Until the sync a crash may leave each step
+//! since the last one done in whole, in part or not at all.
 ghost use Rattle.std.specs.Prelude.{◌≡◌, ◌+◌, ◌^◌, ◌≤◌, ℕ, List, length, Option, IsSome, IfOk, IfSome, OnOk, Some, None, [], option_map};
 ghost use Rattle.tt_disk.specs.declared.volume.Name.{Name};
-ghost use Rattle.tt_disk.specs.Causes.{HasCause};
+ghost use Rattle.tt_disk.specs.Faults.{HasCause};
 ghost use Rattle.tt_disk.specs.Volume.{size_of, written, Torn, CreatedFrom, Removed, Steps, Keeps, IsSettled, Gives, IsNextLog};
 
 /// A call failed, by the volume's fault: the volume counted it.

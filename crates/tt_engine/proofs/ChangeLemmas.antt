@@ -15,21 +15,20 @@ use Rattle.tt_value.specs.declared.refusal.Refusal.TheVariants.{DuplicateKey, Lo
 use Rattle.tt_value.specs.declared.position.Position.{Position}
 use Rattle.tt_record.specs.declared.entry.Entry.{Entry}
 use Rattle.tt_record.specs.declared.entry.Entry.TheVariants.{Change}
-use Rattle.tt_value.specs.Words.{big_endian}
+use Rattle.tt_value.specs.BigEndian.{big_endian}
 use Rattle.tt_value.specs.Stored.{IsStorableValue}
 use Rattle.tt_value.specs.declared.value.Value.TheVariants.{Int}
-use Rattle.tt_record.specs.Entries.{IsEntry, length_of}
-use Rattle.tt_record.specs.Places.{place_of}
+use Rattle.tt_record.specs.Entry.{IsEntry, length_of}
+use Rattle.tt_record.specs.Place.{position_of}
 use Rattle.tt_log.specs.declared.log.Log.{Log}
 use Rattle.tt_model.specs.Entries.{is_switch}
-use Rattle.tt_log.specs.Logs.{write_of}
+use Rattle.tt_log.specs.Log.{write_position_of, file_size_of}
 use Rattle.tt_model.specs.Live.{touched, with_number}
-use Rattle.tt_model.specs.Laws.{NextIsFresh, SeenRowsMayChange}
 use Rattle.tt_model.specs.Steady.{IsGrown}
 use Rattle.tt_model.specs.State.{State, at_one, cells_of, free_place, is_used, next, placed, trail, with_entry, write_position, scan_held}
-use Rattle.tt_model.specs.Step.{Answered, made, made_in, no_number_for, no_place, number_for, edit_length, refused, unless_refused}
+use Rattle.tt_model.specs.Step.{Answered, made, made_in, no_number_for, no_position, number_for, edit_length, refused, unless_refused}
 use Rattle.tt_model.specs.Meaning.{refused_if}
-use Rattle.tt_model.specs.Found.{Found}
+use Rattle.tt_model.specs.Opened.{Opened}
 use Rattle.tt_model.specs.Committed.{Cells, changed_by, committed, is_full, put}
 use Rattle.tt_set.specs.declared.settings.Settings.{Settings}
 use Rattle.tt_value.specs.declared.refusal.Refusal.{Refusal}
@@ -37,15 +36,16 @@ use Rattle.tt_model.specs.StepLaws.{AreNumberedFrom}
 use Rattle.tt_engine.specs.declared.memory.Memory.{Memory}
 use Rattle.tt_engine.specs.declared.rows.Rows.{Rows}
 use Rattle.tt_engine.specs.declared.request.Request.TheVariants.{Insert}
-use Rattle.tt_engine.specs.Requests.{answer, insert_edit, kv, own_number, row_of, sees_key}
-use Rattle.tt_engine.specs.Founds.{Takes}
-use Rattle.tt_engine.specs.Engines.{FillsPlaces, HoldRows, IsAlone, IsInsert, InMemory, places_end}
-use Rattle.tt_engine.specs.Laws.{Laws}
-use Rattle.tt_recover.specs.Opening.{found_by}
+use Rattle.tt_engine.specs.Request.{answer, insert_edit, kv, own_number, row_of, sees_key}
+use Rattle.tt_engine.specs.Rows.{Takes}
+use Rattle.tt_engine.specs.Memory.{FillsPlaces, HoldRows, IsAlone, IsInsert, InMemory}
+use Rattle.tt_record.specs.Limits.{places_end}
+use Rattle.tt_recover.specs.Opening.{opened_from}
 use Rattle.tt_journal.specs.LogTrail.{HasEnds}
 use Rattle.tt_model.specs.Works.{SameLog, performed}
 use Rattle.tt_engine.proofs.InsertLemmas.{Fills, filled, filled_sees, filled_used, fresh_found, fresh_touched, next_least, live_behind, live_one, new_touched, new_unused, self_eq}
 use Rattle.tt_engine.proofs.PlaceLemmas.{least_free_is}
+use Rattle.tt_model.proofs.Theorems.{next_is_fresh, seen_rows_may_change}
 
 key_added : (c b : Bool) → cond c true b ≡ (b || c)
 key_added true true = refl
@@ -94,10 +94,10 @@ filled_alone own t p key value s alone is = record {
     by true o same = refl
     by false o same = same
 
-filled_grown : (own : Option ℕ) (t p : ℕ) (key value : ℤ) (s : State) → SeenRowsMayChange → Fills own t p s → IsGrown s.found.cells s.entries → IsGrown s.found.cells ((filled t p key value s).entries)
+filled_grown : (own : Option ℕ) (t p : ℕ) (key value : ℤ) (s : State) → Fills own t p s → IsGrown s.found.cells s.entries → IsGrown s.found.cells ((filled t p key value s).entries)
 unfolding filled with_entry
-filled_grown own t p key value s law f grown =
-    (law.new_row s.found.cells s.entries t p grown (λ dead. new_touched own t s f.fresh f.alone f.number dead) (new_unused own s p f.alone f.free), grown)
+filled_grown own t p key value s f grown =
+    (seen_rows_may_change.new_row s.found.cells s.entries t p grown (λ dead. new_touched own t s f.alone f.number dead) (new_unused own s p f.alone f.free), grown)
 
 wide : (t p : ℕ) (key value : ℤ) (s : State) → (filled t p key value s).pages ≡ max (suc (p / 32)) s.pages
 unfolding filled with_entry
@@ -114,17 +114,17 @@ filled_below own t p key value s f q is = by (nat_eq q p) refl (sym (filled_used
     by false other here = let low = f.below q here in let w = pages in omega (arith, low, w)
 
 -- the own number is that of a transaction of this run
-own_new : (own : Option ℕ) (t q : ℕ) (s : State) → NextIsFresh → t ≡ unwrap_or own (next s) → FillsPlaces own s → touched t q s.found.entries ≡ false
-own_new (Some v) t q s law is h = h.new t q (ap (λ o. Some o) (sym is))
-own_new None t q s law is h = fresh_found t q s law is
+own_new : (own : Option ℕ) (t q : ℕ) (s : State) → t ≡ unwrap_or own (next s) → FillsPlaces own s → touched t q s.found.entries ≡ false
+own_new (Some v) t q s is h = h.new t q (ap (λ o. Some o) (sym is))
+own_new None t q s is h = fresh_found t q s is
 
-own_least : (own : Option ℕ) (t : ℕ) (s : State) → NextIsFresh → t ≡ unwrap_or own (next s) → FillsPlaces own s → s.found.next ≤ t
-own_least (Some v) t s law is h = h.least t (ap (λ o. Some o) (sym is))
-own_least None t s law is h = let least = next_least s.found.next (trail s) in omega (arith, is, least)
+own_least : (own : Option ℕ) (t : ℕ) (s : State) → t ≡ unwrap_or own (next s) → FillsPlaces own s → s.found.next ≤ t
+own_least (Some v) t s is h = h.least t (ap (λ o. Some o) (sym is))
+own_least None t s is h = let least = next_least s.found.next (trail s) in omega (arith, is, least)
 
-own_rows : (own : Option ℕ) (t q : ℕ) (s : State) → NextIsFresh → t ≡ unwrap_or own (next s) → FillsPlaces own s → touched t q s.entries ≡ true → is_full (changed_by t s.entries (cells_of s) q) ≡ true
-own_rows (Some v) t q s law is h mark = h.rows t q (ap (λ o. Some o) (sym is)) mark
-own_rows None t q s law is h mark = absurd (let bad : true ≡ false = sym mark ∙ fresh_touched t q s law is in cc)
+own_rows : (own : Option ℕ) (t q : ℕ) (s : State) → t ≡ unwrap_or own (next s) → FillsPlaces own s → touched t q s.entries ≡ true → is_full (changed_by t s.entries (cells_of s) q) ≡ true
+own_rows (Some v) t q s is h mark = h.rows t q (ap (λ o. Some o) (sym is)) mark
+own_rows None t q s is h mark = absurd (let bad : true ≡ false = sym mark ∙ fresh_touched t q s is in cc)
 
 filled_rows : (t p q : ℕ) (key value : ℤ) (s : State) → (touched t q s.entries ≡ true → is_full (changed_by t s.entries (cells_of s) q) ≡ true)
     → touched t q ((filled t p key value s).entries) ≡ true → is_full (changed_by t ((filled t p key value s).entries) (cells_of (filled t p key value s)) q) ≡ true
@@ -145,23 +145,23 @@ filled_found : (t p : ℕ) (key value : ℤ) (s : State) → (filled t p key val
 unfolding filled with_entry
 filled_found t p key value s = refl
 
-filled_opened : (t p : ℕ) (key value : ℤ) (s : State) → s.found ≡ found_by s.found.entries s.found.end → (filled t p key value s).found ≡ found_by ((filled t p key value s).found.entries) ((filled t p key value s).found.end)
+filled_opened : (t p : ℕ) (key value : ℤ) (s : State) → s.found ≡ opened_from s.found.entries s.found.end → (filled t p key value s).found ≡ opened_from ((filled t p key value s).found.entries) ((filled t p key value s).found.end)
 unfolding filled with_entry
 filled_opened t p key value s is = is
 
 filled_places : (own : Option ℕ) (t p : ℕ) (key value : ℤ) (s : State) → Fills own t p s → FillsPlaces own s → FillsPlaces (Some t) (filled t p key value s)
 filled_places own t p key value s f h = record {
   rows = λ u q is mark. subst (λ v. touched v q ((filled t p key value s).entries) ≡ true → is_full (changed_by v ((filled t p key value s).entries) (cells_of (filled t p key value s)) q) ≡ true) (same_Some _ _ is)
-      (filled_rows t p q key value s (own_rows own t q s f.fresh f.number h)) mark;
+      (filled_rows t p q key value s (own_rows own t q s f.number h)) mark;
   new = λ u q is. subst (λ v. touched v q ((filled t p key value s).found.entries) ≡ false) (same_Some _ _ is)
-      (ap (λ (g : Found). touched t q g.entries) (filled_found t p key value s) ∙ own_new own t q s f.fresh f.number h);
+      (ap (λ (g : Opened). touched t q g.entries) (filled_found t p key value s) ∙ own_new own t q s f.number h);
   least = λ u is. subst (λ v. (filled t p key value s).found.next ≤ v) (same_Some _ _ is)
-      (subst (λ (g : Found). g.next ≤ t) (sym (filled_found t p key value s)) (own_least own t s f.fresh f.number h));
+      (subst (λ (g : Opened). g.next ≤ t) (sym (filled_found t p key value s)) (own_least own t s f.number h));
 }
 
-filled_next : (t p : ℕ) (key value : ℤ) (s : State) → NextIsFresh → next (filled t p key value s) ≡ max (suc t) (next s)
+filled_next : (t p : ℕ) (key value : ℤ) (s : State) → next (filled t p key value s) ≡ max (suc t) (next s)
 unfolding filled
-filled_next t p key value s law = law.change t p Empty (Full kv (row_of key value)) s
+filled_next t p key value s = next_is_fresh.change t p Empty (Full kv (row_of key value)) s
 
 filled_origin : (t p : ℕ) (key value : ℤ) (s : State) → scan_held (filled t p key value s) 0 ≡ scan_held s 0
 unfolding filled with_entry
@@ -173,44 +173,42 @@ filled_kept t p key value s = (refl, refl, refl)
 
 -- ---- the engine
 
-pub fills : (e : Memory) (s : State) (t : ℕ) → Laws → InMemory e s → t ≡ unwrap_or e.own e.next → e.rows.free < places_end → Fills e.own t e.rows.free s
-fills e s t laws h is inside = record {
-  fresh = laws.fresh;
-  places = laws.places;
+pub fills : (e : Memory) (s : State) (t : ℕ) → InMemory e s → t ≡ unwrap_or e.transaction e.next_transaction → e.rows.free < places_end → Fills e.transaction t e.rows.free s
+fills e s t h is inside = record {
   alone = h.alone;
-  number = is ∙ ap (unwrap_or e.own) h.next;
+  number = is ∙ ap (unwrap_or e.transaction) h.next;
   below = h.below;
   free = h.rows.free inside;
 }
 
 -- how the engine changes
 pub record Changes (e e' : Memory) (t : ℕ) : Type 0 where
-  pub own : e'.own ≡ Some t
-  pub next : e'.next ≡ max e.next (t + 1)
-  pub wish : e'.wish ≡ e.wish
+  pub own : e'.transaction ≡ Some t
+  pub next : e'.next_transaction ≡ max e.next_transaction (t + 1)
+  pub wish : e'.next_commit_durable ≡ e.next_commit_durable
   pub durable : e'.durable_commits ≡ e.durable_commits
 
-pub stands_filled : (e e' : Memory) (s : State) (t : ℕ) (key value : ℤ) → Laws → InMemory e s → t ≡ unwrap_or e.own e.next → e.rows.free < places_end
+pub stands_filled : (e e' : Memory) (s : State) (t : ℕ) (key value : ℤ) → InMemory e s → t ≡ unwrap_or e.transaction e.next_transaction → e.rows.free < places_end
     → Takes e.rows e'.rows key → Changes e e' t → InMemory e' (filled t e.rows.free key value s)
-stands_filled e e' s t key value laws h is inside takes c =
-    let f = fills e s t laws h is inside in
+stands_filled e e' s t key value h is inside takes c =
+    let f = fills e s t h is inside in
     let kept = filled_kept t e.rows.free key value s in
-    let next = filled_next t e.rows.free key value s laws.fresh in
+    let next = filled_next t e.rows.free key value s in
     let old_next = h.next in
     let new_next = c.next in
     record {
-      grown = subst (λ (cells : Cells). IsGrown cells ((filled t e.rows.free key value s).entries)) (ap (λ (f : Found). f.cells) (sym kept.0)) (filled_grown e.own t e.rows.free key value s laws.seen f h.grown);
-      below = filled_below e.own t e.rows.free key value s f;
+      grown = subst (λ (cells : Cells). IsGrown cells ((filled t e.rows.free key value s).entries)) (ap (λ (f : Opened). f.cells) (sym kept.0)) (filled_grown e.transaction t e.rows.free key value s f h.grown);
+      below = filled_below e.transaction t e.rows.free key value s f;
       opened = filled_opened t e.rows.free key value s h.opened;
       origin = filled_origin t e.rows.free key value s ∙ h.origin;
-      numbered = subst (λ (f : Found). AreNumberedFrom f.next ((filled t e.rows.free key value s).entries)) (sym kept.0)
-          (filled_numbered s.found.next t e.rows.free key value s (own_least e.own t s laws.fresh f.number h.filled) h.numbered);
-      filled = subst (λ o. FillsPlaces o (filled t e.rows.free key value s)) (sym c.own) (filled_places e.own t e.rows.free key value s f h.filled);
-      alone = subst (λ o. IsAlone o (filled t e.rows.free key value s)) (sym c.own) (filled_alone e.own t e.rows.free key value s h.alone f.number);
+      numbered = subst (λ (f : Opened). AreNumberedFrom f.next ((filled t e.rows.free key value s).entries)) (sym kept.0)
+          (filled_numbered s.found.next t e.rows.free key value s (own_least e.transaction t s f.number h.filled) h.numbered);
+      filled = subst (λ o. FillsPlaces o (filled t e.rows.free key value s)) (sym c.own) (filled_places e.transaction t e.rows.free key value s f h.filled);
+      alone = subst (λ o. IsAlone o (filled t e.rows.free key value s)) (sym c.own) (filled_alone e.transaction t e.rows.free key value s h.alone f.number);
       next = omega (arith, next, old_next, new_next);
       wish = c.wish ∙ h.wish ∙ ap (λ (w : ℕ → Bool). w 1) (sym kept.1);
       durable = c.durable ∙ h.durable ∙ ap (λ (settings : Settings). settings.durable_commits) (sym kept.2);
-      rows = rows_taken e.own t key value s e.rows e'.rows f h.rows takes;
+      rows = rows_taken e.transaction t key value s e.rows e'.rows f h.rows takes;
     }
 
 -- ---- the answer
@@ -218,11 +216,11 @@ stands_filled e e' s t key value laws h is inside takes c =
 unless_none : (a b : Option Refusal) (s : State) (x : Answered) → a ≡ None → b ≡ None → unless_refused (option_or a b) x s ≡ x
 unless_none a b s x none_a none_b = ap (λ o. unless_refused (option_or o b) x s) none_a ∙ ap (λ o. unless_refused o x s) none_b
 
-pub made_filled : (s : State) (t p : ℕ) (key value : ℤ) → no_number_for (s.own 1) s ≡ None → no_place (edit_length (insert_edit key value) ∷ []) s ≡ None → number_for (s.own 1) s ≡ t → free_place s ≡ p
+pub made_filled : (s : State) (t p : ℕ) (key value : ℤ) → no_number_for (s.own 1) s ≡ None → no_position (edit_length (insert_edit key value) ∷ []) s ≡ None → number_for (s.own 1) s ≡ t → free_place s ≡ p
     → made 1 (insert_edit key value ∷ []) s ≡ (Changed 1, filled t p key value s)
 unfolding filled
 made_filled s t p key value number place is at =
-    unless_none (no_number_for (s.own 1) s) (no_place (edit_length (insert_edit key value) ∷ []) s) s (Changed 1, made_in 1 (number_for (s.own 1) s) (insert_edit key value ∷ []) s) number place
+    unless_none (no_number_for (s.own 1) s) (no_position (edit_length (insert_edit key value) ∷ []) s) s (Changed 1, made_in 1 (number_for (s.own 1) s) (insert_edit key value ∷ []) s) number place
     ∙ ap (λ u. (Changed 1, made_in 1 u (insert_edit key value ∷ []) s)) is
     ∙ ap (λ q. (Changed 1, record (with_entry (Change t q Empty (Full kv (row_of key value))) s) { own = at_one 1 (Some t) s.own })) at
 
@@ -231,53 +229,53 @@ change_length : (t p : ℕ) (b a : Cell) → length_of (Change t p b a) ≡ leng
 unfolding big_endian
 change_length t p b a = refl
 
-number_there : (e : Memory) (s : State) (t : ℕ) → InMemory e s → t ≡ unwrap_or e.own e.next → t < 2 ^ 48 → no_number_for (s.own 1) s ≡ None
-number_there e s t h is small = ap (λ o. no_number_for o s) (h.alone.sessions 1) ∙ by e.own is
+number_there : (e : Memory) (s : State) (t : ℕ) → InMemory e s → t ≡ unwrap_or e.transaction e.next_transaction → t < 2 ^ 48 → no_number_for (s.own 1) s ≡ None
+number_there e s t h is small = ap (λ o. no_number_for o s) (h.alone.sessions 1) ∙ by e.transaction is
   where
     none : (n : ℕ) → n < 2 ^ 48 → nat_le (2 ^ 48) n ≡ false
     none n low = grind (arith, low)
 
-    by : (own : Option ℕ) → t ≡ unwrap_or own e.next → no_number_for own s ≡ None
+    by : (own : Option ℕ) → t ≡ unwrap_or own e.next_transaction → no_number_for own s ≡ None
     by (Some u) is = refl
     by None is = let same = h.next in ap (λ b. refused_if b LogOut) (none (next s) (omega (arith, is, same, small)))
 
-number_is : (e : Memory) (s : State) (t : ℕ) → InMemory e s → t ≡ unwrap_or e.own e.next → number_for (s.own 1) s ≡ t
-number_is e s t h is = ap (λ o. number_for o s) (h.alone.sessions 1) ∙ by e.own is
+number_is : (e : Memory) (s : State) (t : ℕ) → InMemory e s → t ≡ unwrap_or e.transaction e.next_transaction → number_for (s.own 1) s ≡ t
+number_is e s t h is = ap (λ o. number_for o s) (h.alone.sessions 1) ∙ by e.transaction is
   where
-    by : (own : Option ℕ) → t ≡ unwrap_or own e.next → number_for own s ≡ t
+    by : (own : Option ℕ) → t ≡ unwrap_or own e.next_transaction → number_for own s ≡ t
     by (Some u) is = sym is
     by None is = sym h.next ∙ sym is
 
-pub place_test : (s : State) (n : ℕ) (o : Option Position) → place_of (write_position s) n s.settings.log_file_size ≡ o → no_place (n ∷ []) s ≡ elim o [ None ↦ Some LogOut | Some at ↦ None ]
+pub place_test : (s : State) (n : ℕ) (o : Option Position) → position_of (write_position s) n s.settings.log_file_size ≡ o → no_position (n ∷ []) s ≡ elim o [ None ↦ Some LogOut | Some at ↦ None ]
 place_test s n None is = ap (λ o. refused_if (not (elim o [ None ↦ false | Some at ↦ true ])) LogOut) is
 place_test s n (Some at) is = ap (λ o. refused_if (not (elim o [ None ↦ false | Some at ↦ true ])) LogOut) is
 
 -- the same place, as the log and as the state have it
-pub same_place : (log : Log) (s : State) (e : Entry) (n : ℕ) → HasEnds log s → length_of e ≡ n → place_of (write_of log) (length_of e) log.file_size ≡ place_of (write_position s) n s.settings.log_file_size
+pub same_place : (log : Log) (s : State) (e : Entry) (n : ℕ) → HasEnds log s → length_of e ≡ n → position_of (write_position_of log) (length_of e) (file_size_of log) ≡ position_of (write_position s) n s.settings.log_file_size
 same_place log s e n h long =
-    ap (λ p. place_of p (length_of e) log.file_size) h.write ∙ ap (λ k. place_of (write_position s) k log.file_size) long ∙ ap (λ k. place_of (write_position s) n k) h.size
+    ap (λ p. position_of p (length_of e) (file_size_of log)) h.write ∙ ap (λ k. position_of (write_position s) k (file_size_of log)) long ∙ ap (λ k. position_of (write_position s) n k) h.size
 
-pub log_out : (log : Log) (e : Memory) (s : State) (t : ℕ) (key value : ℤ) (entry : Entry) → HasEnds log s → InMemory e s → t ≡ unwrap_or e.own e.next → t < 2 ^ 48 → IsInsert s e t key value entry
-    → place_of (write_of log) (length_of entry) log.file_size ≡ None → answer (Insert key value) s ≡ (Refused LogOut, s)
+pub log_out : (log : Log) (e : Memory) (s : State) (t : ℕ) (key value : ℤ) (entry : Entry) → HasEnds log s → InMemory e s → t ≡ unwrap_or e.transaction e.next_transaction → t < 2 ^ 48 → IsInsert s e t key value entry
+    → position_of (write_position_of log) (length_of entry) (file_size_of log) ≡ None → answer (Insert key value) s ≡ (Refused LogOut, s)
 log_out log e s t key value entry ends h is small i none =
     let long : length_of entry ≡ edit_length (insert_edit key value) = ap length_of i.is ∙ change_length t e.rows.free Empty (Full kv (row_of key value)) in
     let place = place_test s (edit_length (insert_edit key value)) None (sym (same_place log s entry (edit_length (insert_edit key value)) ends long) ∙ none) in
     ap (λ b. if b then refused DuplicateKey s else made 1 (insert_edit key value ∷ []) s) i.fresh
-    ∙ ap (λ o. unless_refused (option_or o (no_place (edit_length (insert_edit key value) ∷ []) s)) (Changed 1, made_in 1 (number_for (s.own 1) s) (insert_edit key value ∷ []) s) s) (number_there e s t h is small)
+    ∙ ap (λ o. unless_refused (option_or o (no_position (edit_length (insert_edit key value) ∷ []) s)) (Changed 1, made_in 1 (number_for (s.own 1) s) (insert_edit key value ∷ []) s) s) (number_there e s t h is small)
     ∙ ap (λ o. unless_refused o (Changed 1, made_in 1 (number_for (s.own 1) s) (insert_edit key value ∷ []) s) s) place
 
-pub inserted : (log : Log) (e : Memory) (s : State) (t : ℕ) (key value : ℤ) (entry : Entry) → Laws → HasEnds log s → InMemory e s → t ≡ unwrap_or e.own e.next → t < 2 ^ 48 → e.rows.free < places_end → IsInsert s e t key value entry
-    → IsSome (place_of (write_of log) (length_of entry) log.file_size) → answer (Insert key value) s ≡ (Changed 1, filled t e.rows.free key value s)
-inserted log e s t key value entry laws ends h is small inside i some =
+pub inserted : (log : Log) (e : Memory) (s : State) (t : ℕ) (key value : ℤ) (entry : Entry) → HasEnds log s → InMemory e s → t ≡ unwrap_or e.transaction e.next_transaction → t < 2 ^ 48 → e.rows.free < places_end → IsInsert s e t key value entry
+    → IsSome (position_of (write_position_of log) (length_of entry) (file_size_of log)) → answer (Insert key value) s ≡ (Changed 1, filled t e.rows.free key value s)
+inserted log e s t key value entry ends h is small inside i some =
     let long : length_of entry ≡ edit_length (insert_edit key value) = ap length_of i.is ∙ change_length t e.rows.free Empty (Full kv (row_of key value)) in
-    let f = fills e s t laws h is inside in
+    let f = fills e s t h is inside in
     ap (λ b. if b then refused DuplicateKey s else made 1 (insert_edit key value ∷ []) s) i.fresh
     ∙ made_filled s t e.rows.free key value (number_there e s t h is small)
-    (there (place_of (write_of log) (length_of entry) log.file_size) some (sym (same_place log s entry (edit_length (insert_edit key value)) ends long)))
+    (there (position_of (write_position_of log) (length_of entry) (file_size_of log)) some (sym (same_place log s entry (edit_length (insert_edit key value)) ends long)))
     (number_is e s t h is)
     (least_free_is (is_used s) (32 * s.pages) e.rows.free h.below h.rows.below (h.rows.free inside))
   where
-    there : (o : Option Position) → IsSome o → place_of (write_position s) (edit_length (insert_edit key value)) s.settings.log_file_size ≡ o → no_place (edit_length (insert_edit key value) ∷ []) s ≡ None
+    there : (o : Option Position) → IsSome o → position_of (write_position s) (edit_length (insert_edit key value)) s.settings.log_file_size ≡ o → no_position (edit_length (insert_edit key value) ∷ []) s ≡ None
     there (Some at) is same = place_test s (edit_length (insert_edit key value)) (Some at) same
     there None is same = cc
 
@@ -310,13 +308,13 @@ number_none None next is = (refl, by (nat_lt next (2 ^ 48)) refl is)
 pub duplicate : (key value : ℤ) (s : State) → sees_key key s ≡ true → answer (Insert key value) s ≡ (Refused DuplicateKey, s)
 duplicate key value s is = ap (λ b. if b then refused DuplicateKey s else made 1 (insert_edit key value ∷ []) s) is
 
-pub numbers_out : (e : Memory) (key value : ℤ) (s : State) → InMemory e s → sees_key key s ≡ false → None ≡ own_number e.own e.next → answer (Insert key value) s ≡ (Refused LogOut, s)
+pub numbers_out : (e : Memory) (key value : ℤ) (s : State) → InMemory e s → sees_key key s ≡ false → None ≡ own_number e.transaction e.next_transaction → answer (Insert key value) s ≡ (Refused LogOut, s)
 numbers_out e key value s h fresh is =
-    let none = number_none e.own e.next is in
+    let none = number_none e.transaction e.next_transaction is in
     let high : nat_le (2 ^ 48) (next s) ≡ true = ap (λ n. nat_le (2 ^ 48) n) (sym h.next) ∙ none.1 in
     let out : no_number_for (s.own 1) s ≡ Some LogOut = ap (λ o. no_number_for o s) (h.alone.sessions 1 ∙ none.0) ∙ ap (λ b. refused_if b LogOut) high in
     ap (λ b. if b then refused DuplicateKey s else made 1 (insert_edit key value ∷ []) s) fresh
-    ∙ ap (λ o. unless_refused (option_or o (no_place (edit_length (insert_edit key value) ∷ []) s)) (Changed 1, made_in 1 (number_for (s.own 1) s) (insert_edit key value ∷ []) s) s) out
+    ∙ ap (λ o. unless_refused (option_or o (no_position (edit_length (insert_edit key value) ∷ []) s)) (Changed 1, made_in 1 (number_for (s.own 1) s) (insert_edit key value ∷ []) s) s) out
 
 -- the Change of an insert is an entry
 pub insert_entry : (t p : ℕ) (key value : ℤ) (e : Entry) → e ≡ Change t p Empty (Full kv (row_of key value)) → 1 ≤ t → t < 2 ^ 48 → p < places_end → FitsSigned w64 key → FitsSigned w64 value → IsEntry e

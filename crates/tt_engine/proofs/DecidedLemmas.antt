@@ -6,57 +6,56 @@ use Rattle.tt_value.specs.declared.refusal.Refusal.{Refusal}
 use Rattle.tt_value.specs.declared.refusal.Refusal.TheVariants.{NoMemory}
 use Rattle.tt_value.specs.declared.reply.Reply.TheVariants.{Refused as RefusedSo}
 use Rattle.tt_record.specs.declared.entry.Entry.{Entry}
-use Rattle.tt_record.specs.Entries.{IsEntry, length_of}
-use Rattle.tt_record.specs.Places.{place_of}
+use Rattle.tt_record.specs.Entry.{IsEntry, length_of}
+use Rattle.tt_record.specs.Place.{position_of}
 use Rattle.tt_log.specs.Walk.{Files, log_of}
 use Rattle.tt_model.specs.Entries.{is_switch}
-use Rattle.tt_log.specs.Logs.{IsOpen, LeavesForced, LeavesThis}
-use Rattle.tt_model.specs.Found.{Found}
+use Rattle.tt_log.specs.Log.{IsOpen, CrashLeavesForced, CrashLeavesLog}
+use Rattle.tt_model.specs.Opened.{Opened}
 use Rattle.tt_model.specs.State.{State}
 use Rattle.tt_model.specs.Works.{SameLog, performed}
-use Rattle.tt_recover.specs.Opening.{found_by, found_in, newest_first, opening}
+use Rattle.tt_recover.specs.Opening.{opened_from, opened_of, newest_first, opening}
 use Rattle.tt_journal.specs.LogTrail.{IsQuiet, LeavesPrefix}
 use Rattle.tt_journal.specs.LineLaws.{breaks_same, writes_same}
-use Rattle.tt_journal.specs.Writes.{Breaks, CanFollow, Outcomes, Writes, listed}
+use Rattle.tt_journal.specs.Journal.{Breaks, CanFollow, Outcomes, Writes, listed}
 use Rattle.tt_journal.proofs.TrailLemmas.{forced_read, left_forced}
 use Rattle.tt_engine.specs.declared.engine.Engine.{Engine}
 use Rattle.tt_engine.specs.declared.memory.Decided.{Decided}
 use Rattle.tt_engine.specs.declared.memory.Memory.{Memory}
 use Rattle.tt_engine.specs.declared.request.Request.{Request}
-use Rattle.tt_engine.specs.Engines.{Advances, InMemory, IsDecided, Stands, Stops}
-use Rattle.tt_engine.specs.Laws.{Laws}
+use Rattle.tt_engine.specs.Engine.{Advances, Represents, Stops, at}
+use Rattle.tt_engine.specs.Memory.{InMemory, IsDecided}
 use Rattle.tt_engine.specs.OpeningLaws.{reads_settled}
-use Rattle.tt_engine.specs.PrefixLaws.{prefix_opens, stands_for}
+use Rattle.tt_engine.specs.PrefixLaws.{prefix_opens}
+use Rattle.tt_engine.specs.RepresentsLaws.{behind_found}
 use Rattle.tt_engine.specs.Prefixes.{IsBehindFound, LeavesOpening, LogsAreSettled, OpensForced}
-use Rattle.tt_engine.specs.Requests.{Answers, answer, takes_memory}
-
-behind_found : (m : Memory) (s : State) → InMemory m s → IsBehindFound s
-behind_found m s h = record { found = h.opened; grown = h.grown; numbered = h.numbered }
+use Rattle.tt_engine.specs.Request.{Answers, answer, takes_memory}
+use Rattle.tt_disk.specs.declared.volume.Volume.{Ghosts}
 
 -- ---- a line
 
-pub decided_advances : {V : Type 0} (now : V → Files) (may : V → Outcomes) (e e' : Engine) (old new : V) (s : State) (request : Request) (d : Decided) → IsDecided request s d e'.memory
-    → Writes now may e.log old s e'.log new (performed (record { entries = listed d.entry; force = d.force }) s) → Advances now may e old s request d.reply e' new
-decided_advances now may e e' old new s request d i w =
-    let writes = writes_same now may e.log old s e'.log new i.after _ i.same w in
+pub decided_advances : {V : Type 0} (g : Ghosts V) (e e' : Engine) (old new : V) (s : State) (request : Request) (d : Decided) → IsDecided request s d e'.memory
+    → Writes g e.log old s e'.log new (performed (record { entries = listed d.entry; force = d.force }) s) → Advances g (at e old) s request d.reply (at e' new)
+decided_advances g e e' old new s request d i w =
+    let writes = writes_same g e.log old s e'.log new i.after _ i.same w in
     record { after = i.after; answers = i.answers; stands = record { log = writes.stands; memory = i.memory }; writes = writes }
 
-pub decided_stops : {V : Type 0} (now : V → Files) (may : V → Outcomes) (laws : Laws) (e e' : Engine) (old new : V) (s : State) (request : Request) (d : Decided) → Stands e (now old) s → IsDecided request s d e'.memory
-    → Breaks now may e.log old s new (performed (record { entries = listed d.entry; force = d.force }) s) → Stops now may e old s request new
-decided_stops now may laws e e' old new s request d h i b = by i.answers
+pub decided_stops : {V : Type 0} (g : Ghosts V) (e e' : Engine) (old new : V) (s : State) (request : Request) (d : Decided) → Represents e (g.now old) s → IsDecided request s d e'.memory
+    → Breaks g e.log old s new (performed (record { entries = listed d.entry; force = d.force }) s) → Stops g e old s request new
+decided_stops g e e' old new s request d h i b = by i.answers
   where
-    whole : Breaks now may e.log old s new i.after
-    whole = breaks_same now may e.log old s new i.after (performed (record { entries = listed d.entry; force = d.force }) s) i.same b
+    whole : Breaks g e.log old s new i.after
+    whole = breaks_same g e.log old s new i.after (performed (record { entries = listed d.entry; force = d.force }) s) i.same b
 
-    leaves : LeavesForced e.log (now old) (may old) → LeavesOpening s.forced i.after (may new)
+    leaves : CrashLeavesForced e.log (g.now old) (g.may old) → LeavesOpening s.forced i.after (g.may new)
     leaves k =
-        prefix_opens laws.opening s.forced i.after (may new) (behind_found e'.memory i.after i.memory)
-        (subst (λ (f : Found). length f.entries ≤ s.forced) (sym whole.onward.found) h.log.bounds.0) (whole.crash k)
+        prefix_opens s.forced i.after (g.may new) (behind_found e'.memory i.after i.memory)
+        (subst (λ (f : Opened). length f.entries ≤ s.forced) (sym whole.onward.found) h.log.bounds.0) (whole.crash k)
 
-    by : Answers request s d.reply i.after → Stops now may e old s request new
+    by : Answers request s d.reply i.after → Stops g e old s request new
     by (inl (is, behind)) = record {
-      leaves = λ k. subst (λ (t : State). LeavesOpening s.forced t (may new)) behind (leaves k);
-      breaks = subst (λ (t : State). Breaks now may e.log old s new t) behind whole;
+      leaves = λ k. subst (λ (t : State). LeavesOpening s.forced t (g.may new)) behind (leaves k);
+      breaks = subst (λ (t : State). Breaks g e.log old s new t) behind whole;
     }
     by (inr (takes, is, behind)) = absurd (whole.moves (subst (λ (t : State). IsQuiet s t) (sym behind) (record { forced = refl; file = refl })))
 
@@ -92,30 +91,9 @@ wanting_so request s d m h takes reply none still = record { after = s; answers 
 pub none_follow : (size : ℕ) (end : Position) (o : Option Entry) → o ≡ None → CanFollow size end (listed o)
 none_follow size end o is = subst (λ (p : Option Entry). CanFollow size end (listed p)) (sym is) (record { entries = tt; places = refl })
 
-pub one_follows : (size : ℕ) (end : Position) (e : Entry) → IsEntry e → is_switch e ≡ false → IsSome (place_of end (length_of e) size) → CanFollow size end (e ∷ [])
-one_follows size end e entry plain some = record { entries = (record { entry = entry; plain = plain }, tt); places = by (place_of end (length_of e) size) some }
+pub one_follows : (size : ℕ) (end : Position) (e : Entry) → IsEntry e → is_switch e ≡ false → IsSome (position_of end (length_of e) size) → CanFollow size end (e ∷ [])
+one_follows size end e entry plain some = record { entries = (record { entry = entry; plain = plain }, tt); places = by (position_of end (length_of e) size) some }
   where
     by : (o : Option Position) → IsSome o → (elim o as (λ x. Bool) [ None ↦ false | Some at ↦ true ]) ≡ true
     by (Some at) some = refl
     by None some = cc
-
--- ---- between two lines
-
-pub state_opens : (e : Engine) (now : Files) (s : State) (may : Outcomes) → Laws → Stands e now s → LeavesPrefix s.forced s may → LeavesOpening s.forced s may
-state_opens e now s may laws h leaves = prefix_opens laws.opening s.forced s may (behind_found e.memory s h.memory) h.log.bounds.0 leaves
-
--- a crash leaves what is forced
-pub forced_found : (e : Engine) (now : Files) (may : Outcomes) (s : State) → Laws → Stands e now s → IsOpen e.log now may → LeavesForced e.log now may → LeavesOpening s.forced s may
-forced_found e now may s laws h o leaves = state_opens e now s may laws h (λ files left. (s.forced, omega arith, left_forced e.log now may may s o h.log leaves files left))
-
--- what opening finds
-pub forced_now : (e : Engine) (now : Files) (may : Outcomes) (s : State) → Laws → Stands e now s → IsOpen e.log now may → OpensForced s now
-unfolding opening
-forced_now e now may s laws h o =
-    let f = forced_read e.log now may s o h.log in
-    record { found = found_by (newest_first f.found.entries) f.found.end; is = ap found_in f.is; stands = stands_for laws.opening s.forced s now (behind_found e.memory s h.memory) h.log.bounds.0 f }
-
--- and that a crash leaves the same
-pub forced_settled : (e : Engine) (now : Files) (may : Outcomes) (s : State) → Laws → Stands e now s → IsOpen e.log now may → LeavesForced e.log now may → LogsAreSettled now may
-forced_settled e now may s laws h o leaves =
-    reads_settled now may (forced_now e now may s laws h o).found (forced_now e now may s laws h o).is (subst (λ (n : ℕ). LeavesThis n (log_of n now) may) h.log.first leaves)

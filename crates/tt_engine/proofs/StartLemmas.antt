@@ -7,45 +7,45 @@ use Rattle.tt_record.specs.declared.entry.Entry.TheVariants.{Mark}
 use Rattle.tt_set.specs.declared.settings.Settings.{Settings}
 use Rattle.tt_log.specs.declared.log.Log.{Log}
 use Rattle.tt_log.specs.declared.refusal.LogRefusal.{LogRefusal}
-use Rattle.tt_log.specs.Walk.{Files, Found as Read, log_of, with_more}
+use Rattle.tt_log.specs.Walk.{Files, LogContents as Read, log_of, with_more}
 use Rattle.tt_disk.specs.Volume.{Keeps}
-use Rattle.tt_log.specs.Logs.{IsOpen, LeavesForced, LeavesThis, entries_in, forced_of, unforced, write_of}
+use Rattle.tt_log.specs.Log.{IsOpen, CrashLeavesForced, CrashLeavesLog, entries_in, forced_of, unforced, write_position_of, first_file_of, force_position_of, file_size_of, buffer_size_of}
 use Rattle.tt_model.specs.Trail.{Trail, Placed, oldest, trail_end}
 use Rattle.tt_model.specs.Committed.{Cells, committed, is_full, no_cells}
 use Rattle.tt_model.specs.Live.{in_use, live, next_number, numbers_below, pages_named}
-use Rattle.tt_model.specs.Found.{Found}
+use Rattle.tt_model.specs.Opened.{Opened}
 use Rattle.tt_model.specs.Run.{begun, opened}
 use Rattle.tt_model.specs.Sets.{SetStanding}
 use Rattle.tt_model.specs.Standing.{standing}
 use Rattle.tt_model.specs.Tables.{rows_of}
 use Rattle.tt_model.specs.State.{State, bound, is_used, next, placed, view, with_entry, scan_held}
 use Rattle.tt_recover.specs.declared.recovery.Recovered.{Recovered}
-use Rattle.tt_recover.specs.declared.replay.FoundRow.{FoundRow}
-use Rattle.tt_recover.specs.Opening.{found_by, newest_first, opening}
-use Rattle.tt_recover.specs.Recoveries.{IsRecovered}
-use Rattle.tt_recover.specs.Replays.{AreInOrder, cell_shown}
+use Rattle.tt_recover.specs.declared.replay.RecoveredRow.{RecoveredRow}
+use Rattle.tt_recover.specs.Opening.{opened_from, newest_first, opening}
+use Rattle.tt_recover.specs.Recovery.{IsRecovered}
+use Rattle.tt_recover.specs.Replay.{AreInOrder, cell_shown}
 use Rattle.tt_engine.specs.declared.engine.Engine.{Engine}
 use Rattle.tt_engine.specs.declared.memory.Memory.{Memory}
 use Rattle.tt_engine.specs.declared.rows.Rows.{Rows}
 use Rattle.tt_model.specs.StepLaws.{AreNumberedFrom}
 use Rattle.tt_model.specs.Steady.{IsGrown}
-use Rattle.tt_engine.specs.Engines.{FillsPlaces, HoldRows, IsAlone, Stands}
-use Rattle.tt_engine.specs.Founds.{HaveFound, has_found_key, has_place}
+use Rattle.tt_engine.specs.Engine.{Represents}
+use Rattle.tt_engine.specs.Memory.{FillsPlaces, HoldRows, IsAlone}
+use Rattle.tt_engine.specs.Rows.{HaveFound, has_found_key, has_place}
 use Rattle.tt_journal.specs.LogTrail.{HasTrail, LeavesPrefix}
 use Rattle.tt_engine.specs.Overs.{IsOver}
 use Rattle.tt_engine.specs.PrefixLaws.{number_again, prefix_opens, since_origin}
 use Rattle.tt_engine.specs.Prefixes.{IsBehindFound, LeavesOpening}
-use Rattle.tt_model.specs.Laws.{OpeningFindsCommitted}
-use Rattle.tt_engine.specs.Requests.{sees_key}
-use Rattle.tt_engine.specs.Refusals.{refusal_of}
+use Rattle.tt_engine.specs.Request.{sees_key}
+use Rattle.tt_engine.specs.Refusal.{refusal_of}
 use Rattle.tt_engine.specs.Starts.{IsRefusedSo, UnlessFailed, are_there, begun_over, database, opened_in}
 use Rattle.tt_engine.specs.declared.refusal.OpenRefusal.{OpenRefusal}
 use Rattle.tt_engine.specs.declared.refusal.OpenRefusal.TheVariants.{NoDatabase, Damaged, LogOut, Failed, NoMemory}
 use Rattle.tt_log.specs.declared.refusal.LogRefusal.TheVariants as log
 use Rattle.tt_disk.specs.declared.volume.Name.{Name}
 use Rattle.tt_disk.specs.declared.volume.Name.TheVariants.{Log as LogFile}
-use Rattle.tt_record.specs.Entries.{length_of}
-use Rattle.tt_record.specs.Places.{place_of, position}
+use Rattle.tt_record.specs.Entry.{length_of}
+use Rattle.tt_record.specs.Place.{position_of, position}
 use Rattle.std.specs.Prelude.{IfErr, IsSome, is_some, IsTrue, OnOk, option_map, ◌↔◌}
 use Rattle.tt_engine.specs.OpeningLaws.{found_is, read_is, same_ok}
 use Rattle.tt_engine.proofs.PlaceLemmas.{any_here, any_found, any_row, in_cell, same_test}
@@ -59,7 +59,7 @@ abbrev no_sets : ℕ → Option SetStanding
 no_sets set = None
 
 abbrev before_mark : Settings → Files → Trail → Position → State
-before_mark settings files es end = opened settings (found_by es end) (are_there files) no_sets
+before_mark settings files es end = opened settings (opened_from es end) (are_there files) no_sets
 
 start_pages : (settings : Settings) (files : Files) (es : Trail) (end : Position) → (before_mark settings files es end).pages ≡ pages_named 0 es
 start_pages settings files es end = ap (pages_named 0) (since_origin es)
@@ -69,11 +69,11 @@ more_none (Ok read) = append-nil read.entries
 more_none (Err e) = refl
 
 -- the log that was opened stands for the trail before the Mark
-pub opened_trail : (r : Recovered) (settings : Settings) (old now : Files) (es : Trail) (end : Position) → newest_first (forced_of r.log now) ≡ es → write_of r.log ≡ end → unforced r.log ≡ []
-    → r.log.first ≡ 0 → r.log.force ≡ write_of r.log → r.log.file_size ≡ settings.log_file_size → length r.log.buffer.items ≡ settings.log_buf_size → ((n : Name) → now n ≡ old n) → HasTrail r.log now (before_mark settings old es end)
+pub opened_trail : (r : Recovered) (settings : Settings) (old now : Files) (es : Trail) (end : Position) → newest_first (forced_of r.log now) ≡ es → write_position_of r.log ≡ end → unforced r.log ≡ []
+    → first_file_of r.log ≡ 0 → force_position_of r.log ≡ write_position_of r.log → file_size_of r.log ≡ settings.log_file_size → buffer_size_of r.log ≡ settings.log_buf_size → ((n : Name) → now n ≡ old n) → HasTrail r.log now (before_mark settings old es end)
 opened_trail r settings old now es end entries write none first force file_size buffer reads = record {
   first = first;
-  entries = ap (λ w. newest_first (entries_in (with_more w (log_of r.log.first now)))) none ∙ ap newest_first (more_none (log_of r.log.first now)) ∙ entries;
+  entries = ap (λ w. newest_first (entries_in (with_more w (log_of (first_file_of r.log) now)))) none ∙ ap newest_first (more_none (log_of (first_file_of r.log) now)) ∙ entries;
   forced = entries ∙ sym (oldest_all es);
   bounds = (omega arith, omega arith);
   write = write;
@@ -85,7 +85,7 @@ opened_trail r settings old now es end entries write none first force file_size 
     none_new : (end : Position) → trail_end end (oldest (length es - length es) []) ≡ end
     none_new end = ap (λ l. trail_end end l) (drop-nil (length {A = Placed} [] - (length es - length es)))
 
-begun_used : (settings : Settings) (files : Files) (es : Trail) (end : Position) (q : ℕ) → is_used (begun settings (found_by es end) (are_there files) no_sets) q ≡ is_full (standing no_cells es q)
+begun_used : (settings : Settings) (files : Files) (es : Trail) (end : Position) (q : ℕ) → is_used (begun settings (opened_from es end) (are_there files) no_sets) q ≡ is_full (standing no_cells es q)
 unfolding begun with_entry in_use committed live
 begun_used settings files es end q = or_none (is_full (standing no_cells es q))
   where
@@ -93,11 +93,11 @@ begun_used settings files es end q = or_none (is_full (standing no_cells es q))
     or_none true = refl
     or_none false = refl
 
-begun_pages : (settings : Settings) (files : Files) (es : Trail) (end : Position) → (begun settings (found_by es end) (are_there files) no_sets).pages ≡ pages_named 0 es
+begun_pages : (settings : Settings) (files : Files) (es : Trail) (end : Position) → (begun settings (opened_from es end) (are_there files) no_sets).pages ≡ pages_named 0 es
 unfolding begun with_entry
 begun_pages settings files es end = start_pages settings files es end
 
-begun_alone : (settings : Settings) (files : Files) (es : Trail) (end : Position) → IsAlone None (begun settings (found_by es end) (are_there files) no_sets)
+begun_alone : (settings : Settings) (files : Files) (es : Trail) (end : Position) → IsAlone None (begun settings (opened_from es end) (are_there files) no_sets)
 unfolding begun with_entry live
 begun_alone settings files es end = record { new_live = refl; all_live = refl; sessions = λ session. by None (nat_eq session 1) }
   where
@@ -105,33 +105,33 @@ begun_alone settings files es end = record { new_live = refl; all_live = refl; s
     by o true = refl
     by o false = refl
 
-begun_next : (settings : Settings) (files : Files) (es : Trail) (end : Position) → next (begun settings (found_by es end) (are_there files) no_sets) ≡ next_number 1 es
+begun_next : (settings : Settings) (files : Files) (es : Trail) (end : Position) → next (begun settings (opened_from es end) (are_there files) no_sets) ≡ next_number 1 es
 unfolding begun with_entry next_number
 begun_next settings files es end = let again = number_again es in omega (arith, again)
 
 begun_grown : (settings : Settings) (files : Files) (es : Trail) (end : Position) →
-    IsGrown ((begun settings (found_by es end) (are_there files) no_sets).found.cells) ((begun settings (found_by es end) (are_there files) no_sets).entries)
-    × AreNumberedFrom ((begun settings (found_by es end) (are_there files) no_sets).found.next) ((begun settings (found_by es end) (are_there files) no_sets).entries)
+    IsGrown ((begun settings (opened_from es end) (are_there files) no_sets).found.cells) ((begun settings (opened_from es end) (are_there files) no_sets).entries)
+    × AreNumberedFrom ((begun settings (opened_from es end) (are_there files) no_sets).found.next) ((begun settings (opened_from es end) (are_there files) no_sets).entries)
 unfolding begun with_entry
 begun_grown settings files es end = ((tt, tt), (tt, tt))
 
-begun_view : (settings : Settings) (files : Files) (es : Trail) (end : Position) → view 1 (begun settings (found_by es end) (are_there files) no_sets) ≡ standing no_cells es
+begun_view : (settings : Settings) (files : Files) (es : Trail) (end : Position) → view 1 (begun settings (opened_from es end) (are_there files) no_sets) ≡ standing no_cells es
 unfolding begun with_entry committed
 begun_view settings files es end = refl
 
-begun_sees : (settings : Settings) (files : Files) (es : Trail) (end : Position) (k : ℤ) → sees_key k (begun settings (found_by es end) (are_there files) no_sets)
+begun_sees : (settings : Settings) (files : Files) (es : Trail) (end : Position) (k : ℤ) → sees_key k (begun settings (opened_from es end) (are_there files) no_sets)
     ≡ list_any (λ q. in_cell k (standing no_cells es q)) (numbers_below (32 * pages_named 0 es))
 unfolding rows_of
 begun_sees settings files es end k =
-    any_row k (view 1 (begun settings (found_by es end) (are_there files) no_sets)) (numbers_below (bound (begun settings (found_by es end) (are_there files) no_sets)))
-    ∙ ap (λ (cells : Cells). list_any (λ q. in_cell k (cells q)) (numbers_below (bound (begun settings (found_by es end) (are_there files) no_sets)))) (begun_view settings files es end)
+    any_row k (view 1 (begun settings (opened_from es end) (are_there files) no_sets)) (numbers_below (bound (begun settings (opened_from es end) (are_there files) no_sets)))
+    ∙ ap (λ (cells : Cells). list_any (λ q. in_cell k (cells q)) (numbers_below (bound (begun settings (opened_from es end) (are_there files) no_sets)))) (begun_view settings files es end)
     ∙ ap (λ n. list_any (λ q. in_cell k (standing no_cells es q)) (numbers_below (32 * n))) (begun_pages settings files es end)
 
 -- the rows that were found are those of the state
-begun_rows : (settings : Settings) (files : Files) (es : Trail) (end : Position) (rows : Rows) (found : List FoundRow) → HaveFound rows found → AreInOrder found
-    → ((q : ℕ) → cell_shown found q ≡ standing no_cells es q) → HoldRows rows (begun settings (found_by es end) (are_there files) no_sets)
+begun_rows : (settings : Settings) (files : Files) (es : Trail) (end : Position) (rows : Rows) (found : List RecoveredRow) → HaveFound rows found → AreInOrder found
+    → ((q : ℕ) → cell_shown found q ≡ standing no_cells es q) → HoldRows rows (begun settings (opened_from es end) (are_there files) no_sets)
 begun_rows settings files es end rows found have order cells =
-    let s = begun settings (found_by es end) (are_there files) no_sets in
+    let s = begun settings (opened_from es end) (are_there files) no_sets in
     let used : (q : ℕ) → is_used s q ≡ has_place found q = λ q. begun_used settings files es end q ∙ ap is_full (sym (cells q)) ∙ shown_full found q in
     record {
       keys = λ k. have.keys k ∙ same_test (has_found_key found k) (list_any (λ q. in_cell k (standing no_cells es q)) (numbers_below (32 * pages_named 0 es))) (to k) (from k) ∙ sym (begun_sees settings files es end k);
@@ -152,30 +152,30 @@ begun_rows settings files es end rows found have order cells =
         let at = any_found (λ q. in_cell k (standing no_cells es q)) (32 * pages_named 0 es) 0 is in
         shown_key k found at.place (ap (in_cell k) (cells at.place) ∙ at.is)
 
-begun_wish : (settings : Settings) (files : Files) (es : Trail) (end : Position) → (begun settings (found_by es end) (are_there files) no_sets).wish 1 ≡ false
+begun_wish : (settings : Settings) (files : Files) (es : Trail) (end : Position) → (begun settings (opened_from es end) (are_there files) no_sets).wish 1 ≡ false
 unfolding begun with_entry
 begun_wish settings files es end = refl
 
-begun_settings : (settings : Settings) (files : Files) (es : Trail) (end : Position) → (begun settings (found_by es end) (are_there files) no_sets).settings.durable_commits ≡ settings.durable_commits
+begun_settings : (settings : Settings) (files : Files) (es : Trail) (end : Position) → (begun settings (opened_from es end) (are_there files) no_sets).settings.durable_commits ≡ settings.durable_commits
 unfolding begun with_entry
 begun_settings settings files es end = refl
 
 begun_opened : (settings : Settings) (files : Files) (es : Trail) (end : Position) →
-    (begun settings (found_by es end) (are_there files) no_sets).found
-    ≡ found_by ((begun settings (found_by es end) (are_there files) no_sets).found.entries) ((begun settings (found_by es end) (are_there files) no_sets).found.end)
+    (begun settings (opened_from es end) (are_there files) no_sets).found
+    ≡ opened_from ((begun settings (opened_from es end) (are_there files) no_sets).found.entries) ((begun settings (opened_from es end) (are_there files) no_sets).found.end)
 unfolding begun with_entry
 begun_opened settings files es end = refl
 
-begun_origin : (settings : Settings) (files : Files) (es : Trail) (end : Position) → scan_held (begun settings (found_by es end) (are_there files) no_sets) 0 ≡ Some (position 0 0)
+begun_origin : (settings : Settings) (files : Files) (es : Trail) (end : Position) → scan_held (begun settings (opened_from es end) (are_there files) no_sets) 0 ≡ Some (position 0 0)
 unfolding begun with_entry
 begun_origin settings files es end = refl
 
-pub stands_begun : (e : Engine) (settings : Settings) (old now : Files) (es : Trail) (end : Position) (found : List FoundRow) → HasTrail e.log now (with_entry Mark (before_mark settings old es end))
-    → e.memory.durable_commits ≡ settings.durable_commits → e.memory.next ≡ next_number 1 es → e.memory.own ≡ None → e.memory.wish ≡ false → HaveFound e.memory.rows found → AreInOrder found
-    → ((q : ℕ) → cell_shown found q ≡ standing no_cells es q) → Stands e now (begun_over settings old (found_by es end))
+pub stands_begun : (e : Engine) (settings : Settings) (old now : Files) (es : Trail) (end : Position) (found : List RecoveredRow) → HasTrail e.log now (with_entry Mark (before_mark settings old es end))
+    → e.memory.durable_commits ≡ settings.durable_commits → e.memory.next_transaction ≡ next_number 1 es → e.memory.transaction ≡ None → e.memory.next_commit_durable ≡ false → HaveFound e.memory.rows found → AreInOrder found
+    → ((q : ℕ) → cell_shown found q ≡ standing no_cells es q) → Represents e now (begun_over settings old (opened_from es end))
 unfolding begun
 stands_begun e settings old now es end found log durable number own wish have order cells =
-    let s = begun settings (found_by es end) (are_there old) no_sets in
+    let s = begun settings (opened_from es end) (are_there old) no_sets in
     let grown = begun_grown settings old es end in
     record {
       log = log;
@@ -196,7 +196,7 @@ stands_begun e settings old now es end found log durable number own wish have or
 
 -- ---- what a crash leaves before and in the Mark
 
-pub begun_prefix : (settings : Settings) (old : Files) (found : Found) (may : Outcomes) → opening old ≡ Ok found → LeavesThis 0 (log_of 0 old) may → LeavesPrefix (length found.entries) (begun_over settings old found) may
+pub begun_prefix : (settings : Settings) (old : Files) (found : Opened) (may : Outcomes) → opening old ≡ Ok found → CrashLeavesLog 0 (log_of 0 old) may → LeavesPrefix (length found.entries) (begun_over settings old found) may
 unfolding begun with_entry
 begun_prefix settings old found may is leaves files left =
     let read = read_is old found is in
@@ -215,88 +215,88 @@ begun_prefix settings old found may is leaves files left =
     none_new : (x : Placed) (end : Position) (n : ℕ) → trail_end end (oldest (n - n) (x ∷ [])) ≡ end
     none_new x end n = let zero_more : length (x ∷ []) - (n - n) ≡ 1 = omega arith in ap (λ k. trail_end end (drop k (x ∷ []))) zero_more
 
-begun_behind : (settings : Settings) (old : Files) (found : Found) → found ≡ found_by found.entries found.end → IsBehindFound (begun_over settings old found)
+begun_behind : (settings : Settings) (old : Files) (found : Opened) → found ≡ opened_from found.entries found.end → IsBehindFound (begun_over settings old found)
 unfolding begun with_entry
 begun_behind settings old found is = record { found = is; grown = (tt, tt); numbered = (tt, tt) }
 
-begun_found : (settings : Settings) (old : Files) (found : Found) → (begun_over settings old found).found ≡ found
+begun_found : (settings : Settings) (old : Files) (found : Opened) → (begun_over settings old found).found ≡ found
 unfolding begun with_entry
 begun_found settings old found = refl
 
 -- so opening finds what it found, perhaps with the Mark
-pub begun_opens : (law : OpeningFindsCommitted) (settings : Settings) (old : Files) (found : Found) (may : Outcomes) → opening old ≡ Ok found → LeavesPrefix (length found.entries) (begun_over settings old found) may
+pub begun_opens : (settings : Settings) (old : Files) (found : Opened) (may : Outcomes) → opening old ≡ Ok found → LeavesPrefix (length found.entries) (begun_over settings old found) may
     → LeavesOpening (length found.entries) (begun_over settings old found) may
-begun_opens law settings old found may is leaves =
-    prefix_opens law (length found.entries) (begun_over settings old found) may (begun_behind settings old found (found_is old found is))
-    (let same = ap (λ (f : Found). length f.entries) (begun_found settings old found) in omega (arith, same)) leaves
+begun_opens settings old found may is leaves =
+    prefix_opens (length found.entries) (begun_over settings old found) may (begun_behind settings old found (found_is old found is))
+    (let same = ap (λ (f : Opened). length f.entries) (begun_found settings old found) in omega (arith, same)) leaves
 
 -- in the Mark
-pub mark_prefix : (settings : Settings) (old : Files) (found : Found) (may : Outcomes) → LeavesPrefix (length found.entries) (with_entry Mark (opened settings found (are_there old) no_sets)) may → LeavesPrefix (length found.entries) (begun_over settings old found) may
+pub mark_prefix : (settings : Settings) (old : Files) (found : Opened) (may : Outcomes) → LeavesPrefix (length found.entries) (with_entry Mark (opened settings found (are_there old) no_sets)) may → LeavesPrefix (length found.entries) (begun_over settings old found) may
 unfolding begun
 mark_prefix settings old found may leaves = leaves
 
 -- ---- over what was recovered
 
-same_found : (r : Result Found LogRefusal) (a b : Found) → r ≡ Ok a → r ≡ Ok b → a ≡ b
+same_found : (r : Result Opened LogRefusal) (a b : Opened) → r ≡ Ok a → r ≡ Ok b → a ≡ b
 same_found r a b is_a is_b = same_ok a b r r is_a is_b refl
 
 -- what recovering gave, and the engine over it
 pub record IsReady (settings : Settings) (old mid : Files) (r : Recovered) (e : Engine) : Type 0 where
   pub recovered : IsRecovered r old mid
   pub over : IsOver settings r e
-  pub first : r.log.first ≡ 0
-  pub force : r.log.force ≡ write_of r.log
-  pub sizes : (r.log.file_size ≡ settings.log_file_size) × (length r.log.buffer.items ≡ settings.log_buf_size)
+  pub first : first_file_of r.log ≡ 0
+  pub force : force_position_of r.log ≡ write_position_of r.log
+  pub sizes : (file_size_of r.log ≡ settings.log_file_size) × (buffer_size_of r.log ≡ settings.log_buf_size)
   pub reads : (n : Name) → mid n ≡ old n
 
 abbrev entries_of_log : Recovered → Files → Trail
 entries_of_log r now = newest_first (forced_of r.log now)
 
-made_of : (settings : Settings) (old mid : Files) (r : Recovered) (e : Engine) → IsReady settings old mid r e → (found : Found) → opening old ≡ Ok found → found_by (entries_of_log r mid) (write_of r.log) ≡ found
+made_of : (settings : Settings) (old mid : Files) (r : Recovered) (e : Engine) → IsReady settings old mid r e → (found : Opened) → opening old ≡ Ok found → opened_from (entries_of_log r mid) (write_position_of r.log) ≡ found
 made_of settings old mid r e ready found is =
     let got = ready.recovered in
-    ap (λ es. found_by es (write_of r.log)) got.entries ∙ ap (λ at. found_by got.found.entries at) got.end ∙ sym (found_is old got.found got.is) ∙ same_found (opening old) got.found found got.is is
+    ap (λ es. opened_from es (write_position_of r.log)) got.entries ∙ ap (λ at. opened_from got.found.entries at) got.end ∙ sym (found_is old got.found got.is) ∙ same_found (opening old) got.found found got.is is
 
-pub mark_ready : (settings : Settings) (old mid : Files) (r : Recovered) (e : Engine) → IsReady settings old mid r e → (found : Found) → opening old ≡ Ok found → HasTrail e.log mid (opened settings found (are_there old) no_sets)
+pub mark_ready : (settings : Settings) (old mid : Files) (r : Recovered) (e : Engine) → IsReady settings old mid r e → (found : Opened) → opening old ≡ Ok found → HasTrail e.log mid (opened settings found (are_there old) no_sets)
 mark_ready settings old mid r e ready found is =
     subst (λ (l : Log). HasTrail l mid (opened settings found (are_there old) no_sets)) (sym ready.over.log)
-    (subst (λ (f : Found). HasTrail r.log mid (opened settings f (are_there old) no_sets)) (made_of settings old mid r e ready found is)
-    (opened_trail r settings old mid (entries_of_log r mid) (write_of r.log) refl refl ready.recovered.none ready.first ready.force ready.sizes.0 ready.sizes.1 ready.reads))
+    (subst (λ (f : Opened). HasTrail r.log mid (opened settings f (are_there old) no_sets)) (made_of settings old mid r e ready found is)
+    (opened_trail r settings old mid (entries_of_log r mid) (write_position_of r.log) refl refl ready.recovered.none ready.first ready.force ready.sizes.0 ready.sizes.1 ready.reads))
 
-pub mark_stands : (settings : Settings) (old mid now : Files) (r : Recovered) (e e' : Engine) → IsReady settings old mid r e → AreInOrder r.rows.items → (found : Found) → opening old ≡ Ok found
+pub mark_stands : (settings : Settings) (old mid now : Files) (r : Recovered) (e e' : Engine) → IsReady settings old mid r e → AreInOrder r.rows.items → (found : Opened) → opening old ≡ Ok found
     → HasTrail e'.log now (with_entry Mark (opened settings found (are_there old) no_sets)) → e'.memory ≡ e.memory
-    → Stands e' now (begun_over settings old found)
+    → Represents e' now (begun_over settings old found)
 mark_stands settings old mid now r e e' ready order found is log same =
     let got = ready.recovered in
     let es = entries_of_log r mid in
     let made = made_of settings old mid r e ready found is in
     let got_is = same_found (opening old) got.found found got.is is in
     let o = ready.over in
-    subst (λ (f : Found). Stands e' now (begun_over settings old f)) made
-    (stands_begun e' settings old now es (write_of r.log) r.rows.items
-    (subst (λ (f : Found). HasTrail e'.log now (with_entry Mark (opened settings f (are_there old) no_sets))) (sym made) log)
-    (ap (λ (m : Memory). m.durable_commits) same ∙ o.durable) (ap (λ (m : Memory). m.next) same ∙ o.next ∙ got.next ∙ ap (λ (f : Found). f.next) got_is ∙ sym (ap (λ (f : Found). f.next) made)) (ap (λ (m : Memory). m.own) same ∙ o.own) (ap (λ (m : Memory). m.wish) same ∙ o.wish)
+    subst (λ (f : Opened). Represents e' now (begun_over settings old f)) made
+    (stands_begun e' settings old now es (write_position_of r.log) r.rows.items
+    (subst (λ (f : Opened). HasTrail e'.log now (with_entry Mark (opened settings f (are_there old) no_sets))) (sym made) log)
+    (ap (λ (m : Memory). m.durable_commits) same ∙ o.durable) (ap (λ (m : Memory). m.next_transaction) same ∙ o.next ∙ got.next ∙ ap (λ (f : Opened). f.next) got_is ∙ sym (ap (λ (f : Opened). f.next) made)) (ap (λ (m : Memory). m.transaction) same ∙ o.own) (ap (λ (m : Memory). m.next_commit_durable) same ∙ o.wish)
     (subst (λ (w : Rows). HaveFound w r.rows.items) (sym (ap (λ (m : Memory). m.rows) same)) o.rows) order
-    (λ q. got.cells q ∙ ap (λ (f : Found). f.cells q) got_is ∙ sym (ap (λ (f : Found). f.cells q) made)))
+    (λ q. got.cells q ∙ ap (λ (f : Opened). f.cells q) got_is ∙ sym (ap (λ (f : Opened). f.cells q) made)))
 
 -- ---- what a crash leaves
 
-pub still_leaves : (old new : Files) (may may' : Outcomes) → Keeps old new may may' → (r : Result Read LogRefusal) → LeavesThis 0 r may → LeavesThis 0 r may'
+pub still_leaves : (old new : Files) (may may' : Outcomes) → Keeps old new may may' → (r : Result Read LogRefusal) → CrashLeavesLog 0 r may → CrashLeavesLog 0 r may'
 still_leaves old new may may' keeps r leaves files left = leaves files (λ name. keeps.crash name (files name) (left name))
 
-pub marked_prefix : (log : Log) (now : Files) (may may' : Outcomes) (settings : Settings) (old : Files) (found : Found) → IsOpen log now may → HasTrail log now (with_entry Mark (opened settings found (are_there old) no_sets))
-    → LeavesForced log now may' → LeavesPrefix (length found.entries) (begun_over settings old found) may'
+pub marked_prefix : (log : Log) (now : Files) (may may' : Outcomes) (settings : Settings) (old : Files) (found : Opened) → IsOpen log now may → HasTrail log now (with_entry Mark (opened settings found (are_there old) no_sets))
+    → CrashLeavesForced log now may' → LeavesPrefix (length found.entries) (begun_over settings old found) may'
 unfolding begun with_entry
 marked_prefix log now may may' settings old found o h leaves files left =
     ((with_entry Mark (opened settings found (are_there old) no_sets)).forced, h.bounds.0, left_forced log now may may' (with_entry Mark (opened settings found (are_there old) no_sets)) o h leaves files left)
 
 -- ---- where the Mark stands, and what stays
 
-pub mark_placed : (settings : Settings) (old mid : Files) (r : Recovered) (e : Engine) → IsReady settings old mid r e → (found : Found) → opening old ≡ Ok found → (b : Bool)
-    → (IsTrue b ↔ IsSome (place_of (write_of e.log) (length_of Mark) e.log.file_size)) → b ≡ true → IsSome (place_of found.end (length_of Mark) settings.log_file_size)
+pub mark_placed : (settings : Settings) (old mid : Files) (r : Recovered) (e : Engine) → IsReady settings old mid r e → (found : Opened) → opening old ≡ Ok found → (b : Bool)
+    → (IsTrue b ↔ IsSome (position_of (write_position_of e.log) (length_of Mark) (file_size_of e.log))) → b ≡ true → IsSome (position_of found.end (length_of Mark) settings.log_file_size)
 mark_placed settings old mid r e ready found is b iff there =
     let h = mark_ready settings old mid r e ready found is in
-    subst (λ (k : ℕ). IsSome (place_of found.end (length_of Mark) k)) h.sizes.0 (subst (λ (p : Position). IsSome (place_of p (length_of Mark) e.log.file_size)) h.write (iff.0 there))
+    subst (λ (k : ℕ). IsSome (position_of found.end (length_of Mark) k)) h.sizes.0 (subst (λ (p : Position). IsSome (position_of p (length_of Mark) (file_size_of e.log))) h.write (iff.0 there))
 
 -- a database whose first log file is there is refused as its log is
 pub refused_there : (settings : Settings) (old : Files) (e : LogRefusal) → IsSome (old (LogFile 0)) → (e ≡ log.Failed) ⊎ ((e ≡ log.NoMemory) ⊎ (opening old ≡ Err e)) → IsRefusedSo settings old (refusal_of e)
@@ -316,7 +316,7 @@ refused_there settings old e there why = by (old (LogFile 0)) refl there e why
 pub no_database : (old : Files) → old (LogFile 0) ≡ None → database old ≡ Err NoDatabase
 no_database old none = ap (λ (o : Option (List ℕ)). opened_in o (opening old)) none
 
-pub found_not_damaged : (old : Files) (found : Found) (e : LogRefusal) → opening old ≡ Ok found → opening old ≡ Err e → ⊥
+pub found_not_damaged : (old : Files) (found : Opened) (e : LogRefusal) → opening old ≡ Ok found → opening old ≡ Err e → ⊥
 found_not_damaged old found e is other = let bad : ⊥ = cc in bad
 
 -- a file that was sized and isn't there

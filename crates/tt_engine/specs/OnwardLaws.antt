@@ -1,6 +1,6 @@
 -- States of a run, one behind another.
 use Rattle.std.proofs.Common.{length, ap, arith}
-use Rattle.tt_model.specs.Found.{Found}
+use Rattle.tt_model.specs.Opened.{Opened}
 use Rattle.tt_model.specs.State.{State}
 use Rattle.tt_journal.specs.LogTrail.{IsQuiet}
 use Rattle.tt_engine.specs.Prefixes.{IsSinceOpening, IsStill}
@@ -9,8 +9,8 @@ use Rattle.tt_journal.specs.Onward.{IsOnward}
 -- A later state is behind the opening, too.
 pub since_onward : (s after : State) → IsSinceOpening s → IsOnward s after → IsSinceOpening after
 since_onward s after since onward =
-    let found = ap (λ (f : Found). length f.entries) onward.found in
-    let end = ap (λ (f : Found). f.end.file) onward.found in
+    let found = ap (λ (f : Opened). length f.entries) onward.found in
+    let end = ap (λ (f : Opened). f.end.file) onward.found in
     let forced = since.forced in
     let file = since.file in
     let more = onward.forced in
@@ -20,8 +20,8 @@ since_onward s after since onward =
 -- Where nothing was forced up to a later state, and no file began, nothing was up to the one before, and nothing is between them.
 pub still_before : (s after : State) → IsSinceOpening s → IsOnward s after → IsStill after → IsStill s × IsQuiet s after
 still_before s after since onward still =
-    let found = ap (λ (f : Found). length f.entries) onward.found in
-    let end = ap (λ (f : Found). f.end.file) onward.found in
+    let found = ap (λ (f : Opened). length f.entries) onward.found in
+    let end = ap (λ (f : Opened). f.end.file) onward.found in
     let forced = since.forced in
     let file = since.file in
     let more = onward.forced in

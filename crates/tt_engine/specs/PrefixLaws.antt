@@ -4,21 +4,20 @@ use Rattle.std.proofs.lemmas.List.{drop-append-le}
 use Rattle.tt_disk.specs.declared.volume.Name.{Name}
 use Rattle.tt_value.specs.declared.position.Position.{Position}
 use Rattle.tt_value.specs.declared.reply.Hold.{Hold}
-use Rattle.tt_record.specs.Places.{position}
+use Rattle.tt_record.specs.Place.{position}
 use Rattle.tt_log.specs.Walk.{Files}
 use Rattle.tt_model.specs.Trail.{Trail, oldest, position_le, position_lt, since}
 use Rattle.tt_model.specs.Committed.{Cells, committed, no_cells}
 use Rattle.tt_model.specs.Live.{next_number}
-use Rattle.tt_model.specs.Found.{Found, scan_of}
+use Rattle.tt_model.specs.Opened.{Opened, scan_of}
 use Rattle.tt_model.specs.Holds.{checkpoint_hold, holds_of, least_hold_of, least_of}
 use Rattle.tt_model.specs.Prefix.{StandsForFirst, found_hold, from_file}
 use Rattle.tt_model.specs.Standing.{standing}
 use Rattle.tt_model.specs.State.{State, bound, trail}
 use Rattle.tt_model.specs.Steady.{IsGrown}
-use Rattle.tt_model.specs.Laws.{OpeningFindsCommitted}
 use Rattle.tt_recover.specs.Laws.{next_again, oldest_opens_again}
 use Rattle.tt_model.specs.StepLaws.{AreNumberedFrom}
-use Rattle.tt_recover.specs.Opening.{found_by, found_in, newest_first, opening}
+use Rattle.tt_recover.specs.Opening.{opened_from, opened_of, newest_first, opening}
 use Rattle.tt_journal.specs.LogTrail.{FindsFirst, LeavesPrefix}
 use Rattle.tt_engine.specs.Prefixes.{IsBehindFound, LeavesOpening}
 
@@ -62,27 +61,27 @@ pub origin_hold : (scans : ℕ → Option Position) (places : ℕ) (cells : Cell
 unfolding holds_of
 origin_hold scans places cells t end is = held_first (scans 0) _ end is
 
-hold_file : (bound : ℕ) (es : Trail) (end : Position) → (found_hold bound (found_by es end)).file ≡ 0
-hold_file bound es end = ap (λ (p : Position). p.file) (origin_hold (λ file. scan_of ((found_by es end).heads file)) bound (standing no_cells es) [] end refl)
+hold_file : (bound : ℕ) (es : Trail) (end : Position) → (found_hold bound (opened_from es end)).file ≡ 0
+hold_file bound es end = ap (λ (p : Position). p.file) (origin_hold (λ file. scan_of ((opened_from es end).heads file)) bound (standing no_cells es) [] end refl)
 
-held_all : (bound : ℕ) (es : Trail) (end : Position) (t : Trail) → from_file (found_hold bound (found_by es end)) t ≡ t
+held_all : (bound : ℕ) (es : Trail) (end : Position) (t : Trail) → from_file (found_hold bound (opened_from es end)) t ≡ t
 held_all bound es end t = ap (λ f. since (position f 0) t) (hold_file bound es end) ∙ since_origin t
 
 -- ---- the prefix
 
-pub stands_for : (law : OpeningFindsCommitted) (n : ℕ) (s : State) (files : Files) → IsBehindFound s → length s.found.entries ≤ n → (f : FindsFirst n s files) → StandsForFirst n s (found_by (newest_first f.found.entries) f.found.end)
-stands_for law n s files b low f =
+pub stands_for : (n : ℕ) (s : State) (files : Files) → IsBehindFound s → length s.found.entries ≤ n → (f : FindsFirst n s files) → StandsForFirst n s (opened_from (newest_first f.found.entries) f.found.end)
+stands_for n s files b low f =
     let es = newest_first f.found.entries in
     let old = s.found.entries in
     let parts : es ≡ oldest (n - length old) s.entries ++ old = f.entries ∙ oldest_parts n s.entries old low f.most in
-    let base : s.found.cells ≡ standing no_cells old = ap (λ (g : Found). g.cells) b.found in
-    let number : s.found.next ≡ next_number 1 old = ap (λ (g : Found). g.next) b.found in
+    let base : s.found.cells ≡ standing no_cells old = ap (λ (g : Opened). g.cells) b.found in
+    let number : s.found.next ≡ next_number 1 old = ap (λ (g : Opened). g.next) b.found in
     record {
       least = low;
       most = f.most;
       cells = λ q.
           ap (λ (t : Trail). standing no_cells t q) parts
-          ∙ oldest_opens_again law old s.entries (n - length old) q (subst (λ (c : Cells). IsGrown c s.entries) base b.grown) (subst (λ k. AreNumberedFrom k s.entries) number b.numbered)
+          ∙ oldest_opens_again old s.entries (n - length old) q (subst (λ (c : Cells). IsGrown c s.entries) base b.grown) (subst (λ k. AreNumberedFrom k s.entries) number b.numbered)
           ∙ ap (λ (c : Cells). committed c (oldest (n - length old) s.entries) q) (sym base);
       entries = f.entries ∙ sym (held_all (bound s) es f.found.end (oldest n (trail s)));
       end = f.end;
@@ -95,9 +94,9 @@ stands_for law n s files b low f =
     }
 
 -- Where the walk finds a prefix in every map that a crash may leave, opening does.
-pub prefix_opens : (law : OpeningFindsCommitted) (least : ℕ) (s : State) (may : Name → Option (List ℕ) → Type 0) → IsBehindFound s → length s.found.entries ≤ least → LeavesPrefix least s may → LeavesOpening least s may
+pub prefix_opens : (least : ℕ) (s : State) (may : Name → Option (List ℕ) → Type 0) → IsBehindFound s → length s.found.entries ≤ least → LeavesPrefix least s may → LeavesOpening least s may
 unfolding opening
-prefix_opens law least s may b low leaves files left =
+prefix_opens least s may b low leaves files left =
     let p = leaves files left in
     let f = p.2 in
-    (found_by (newest_first f.found.entries) f.found.end, ap found_in f.is, (p.0, p.1, stands_for law p.0 s files b (let more = p.1 in omega (arith, low, more)) f))
+    (opened_from (newest_first f.found.entries) f.found.end, ap opened_of f.is, (p.0, p.1, stands_for p.0 s files b (let more = p.1 in omega (arith, low, more)) f))

@@ -3,23 +3,23 @@ use Rattle.std.specs.Prelude.{◌≡◌, ◌≤◌, ℕ, List, Option, Some, Non
 use Rattle.tt_disk.specs.declared.volume.Name.{Name}
 use Rattle.tt_log.specs.Walk.{Files}
 use Rattle.tt_log.specs.declared.refusal.LogRefusal.{LogRefusal}
-use Rattle.tt_log.specs.Logs.{MayLeave}
-use Rattle.tt_model.specs.Found.{Found}
+use Rattle.tt_log.specs.Log.{MayLeave}
+use Rattle.tt_model.specs.Opened.{Opened}
 use Rattle.tt_model.specs.Prefix.{IsSettled, StandsForFirst, StandsForPrefix}
 use Rattle.tt_model.specs.State.{State, write_position}
 use Rattle.tt_model.specs.Steady.{IsGrown}
 use Rattle.tt_model.specs.StepLaws.{AreNumberedFrom}
-use Rattle.tt_recover.specs.Opening.{found_by, opening}
+use Rattle.tt_recover.specs.Opening.{opened_from, opening}
 
 -- What was found is what a log stood for, and the new entries might come one after another over it, by transactions of their own.
 pub record IsBehindFound (s : State) : Type 0 where
-  pub found : s.found ≡ found_by s.found.entries s.found.end
+  pub found : s.found ≡ opened_from s.found.entries s.found.end
   pub grown : IsGrown s.found.cells s.entries
   pub numbered : AreNumberedFrom s.found.next s.entries
 
 -- opening these files finds what a prefix of a state's trail stands for, which has at least so many entries
 abbrev pub OpensPrefix : ℕ → State → Files → Type 0
-OpensPrefix least s files = (found : Found) × (opening files ≡ Ok found) × StandsForPrefix least s found
+OpensPrefix least s files = (found : Opened) × (opening files ≡ Ok found) × StandsForPrefix least s found
 
 -- the same of every map of files that a crash may leave
 abbrev pub LeavesOpening : ℕ → State → (Name → Option (List ℕ) → Type 0) → Type 0
@@ -27,16 +27,16 @@ LeavesOpening least s may = (files : Files) → MayLeave may files → OpensPref
 
 -- what opening these files finds stands for just the entries of a state that are forced
 pub record OpensForced (s : State) (files : Files) : Type 0 where
-  pub found : Found
+  pub found : Opened
   pub is : opening files ≡ Ok found
   pub stands : StandsForFirst s.forced s found
 
-abbrev pub or_none : Result Found LogRefusal → Option Found
+abbrev pub or_none : Result Opened LogRefusal → Option Opened
 or_none (Ok found) = Some found
 or_none (Err e) = None
 
 -- what opening these files finds, where the log has no damage
-abbrev pub opens : Files → Option Found
+abbrev pub opens : Files → Option Opened
 opens files = or_none (opening files)
 
 -- opening finds the same in every map of files that a crash may leave as in the present one

@@ -1,12 +1,16 @@
-// The machine of one table and one session.
+//! The machine of one table and one session. A line is decided in memory, without a volume, and its work is then performed by one call on
+//! the log, which takes no memory. After a call that failed the engine is done with.
 ghost use Rattle.std.specs.Prelude.{◌≡◌, ◌≤◌, ◌^◌, IsSome, IfOk};
-ghost use Rattle.tt_disk.specs.Causes.{HasCause};
-ghost use Rattle.tt_log.specs.Logs.{IsOpen, LeavesForced};
-ghost use Rattle.tt_model.specs.State.{State};
-ghost use Rattle.tt_engine.specs.Prefixes.{IsSinceOpening, LeavesOpening, LogsAreSettled, OpensForced};
-ghost use Rattle.tt_engine.specs.Requests.{IsGiven};
+ghost use Rattle.tt_record.specs.Limits.{transactions_end};
+ghost use Rattle.tt_engine.specs.Calls.{OpensOn, StepsOn, EndsOn};
+ghost use Rattle.tt_log.specs.Calls.{IsOpenOn};
+ghost use Rattle.tt_disk.specs.Calls.{HasFile};
+ghost use Rattle.tt_disk.specs.Faults.{HasCause};
+ghost use Rattle.tt_log.specs.Log.{IsOpen};
+ghost use Rattle.tt_engine.specs.Prefixes.{IsSinceOpening};
+ghost use Rattle.tt_engine.specs.Request.{IsReplyInUse};
 
-use crate::memory::{Decided, Memory, laws};
+use crate::memory::{Decided, Memory};
 use crate::refusal::{OpenRefusal, refusal_of};
 use crate::request::Request;
 use crate::rows::Rows;
@@ -28,17 +32,17 @@ pub struct Engine {
 
 impl Engine {
     ghost use Rattle.std.specs.Prelude.{IsErrOf};
-    ghost use Rattle.tt_disk.specs.Causes.{RoseWhere};
+    ghost use Rattle.tt_disk.specs.Faults.{RoseWhere};
     ghost use Rattle.tt_disk.specs.declared.volume.Name.TheVariants.{Log as LogFile};
-    ghost use Rattle.tt_set.specs.Attributes.{AreInRange};
-    ghost use Rattle.tt_model.specs.Found.{Found};
-    ghost use Rattle.tt_engine.specs.Engines.{Ends, Stands, Steps};
+    ghost use Rattle.tt_set.specs.Settings.{AreInRange};
+    ghost use Rattle.tt_model.specs.Opened.{Opened};
+    ghost use Rattle.tt_engine.specs.Engine.{Ends, Steps};
     ghost use Rattle.tt_engine.specs.Overs.{IsOver};
     ghost use Rattle.tt_engine.specs.Starts.{Opens, begun_over};
 
     // The engine over what was found, before its Mark.
     fn over(alloc: Global, settings: &Settings, recovered: Recovered) -> Result<Engine, AllocError>
-        requires numbers { (1 ≤ recovered.next_transaction) × (recovered.next_transaction ≤ 2 ^ 48) }
+        requires numbers { (1 ≤ recovered.next_transaction) × (recovered.next_transaction ≤ transactions_end) }
         ensures over { IfOk result (λ e. IsOver settings.now recovered e) }
     {
         let Recovered {
@@ -49,9 +53,9 @@ impl Engine {
         let rows = Rows::new(alloc, &rows)?;
         let memory = Memory {
             durable_commits: settings.durable_commits,
-            next: next_transaction,
-            own: None,
-            wish: false,
+            next_transaction,
+            transaction: None,
+            next_commit_durable: false,
             rows,
         };
         Ok(Engine { log, memory })
@@ -64,11 +68,10 @@ impl Engine {
         logs: &mut L,
     ) -> Result<Engine, OpenRefusal>
         requires settings { AreInRange settings.now }
-        requires there { L.told → IsSome (L.now logs.old (LogFile 0)) }
-        ensures opens { L.told → Opens L.now L.may settings.now logs.old logs.new result }
+        requires there { HasFile L.Volume (LogFile 0) logs.old }
+        ensures opens { OpensOn L.Volume settings.now logs.old logs.new result }
         ensures cause { RoseWhere L.exact (IsErrOf result OpenRefusal.Failed) (L.faults logs.old) (L.faults logs.new) }
     {
-        laws();
         let recovered = match recover(alloc, logs, settings.log_file_size, settings.log_buf_size) {
             Ok(recovered) => recovered,
             Err(refusal) => return Err(refusal_of(refusal)),
@@ -96,13 +99,12 @@ impl Engine {
         logs: &mut L,
     ) -> Result<Engine, OpenRefusal>
         requires settings { AreInRange settings.now }
-        ensures opens { L.told → Opens L.now L.may settings.now logs.old logs.new result }
+        ensures opens { OpensOn L.Volume settings.now logs.old logs.new result }
 
         // The state with which a run begins is behind the opening.
-        ensures since { (found : Found) → IsSinceOpening (begun_over settings.now (L.now logs.old) found) }
+        ensures since { (found : Opened) → IsSinceOpening (begun_over settings.now (L.now logs.old) found) }
         ensures cause { RoseWhere L.exact (IsErrOf result OpenRefusal.Failed) (L.faults logs.old) (L.faults logs.new) }
     {
-        laws();
         match logs.size(Name::Log(0)) {
             Ok(Some(_)) => Engine::open(alloc, settings, logs),
             Ok(None) => Err(OpenRefusal::NoDatabase),
@@ -119,12 +121,11 @@ impl Engine {
         logs: &mut L,
         request: Request,
     ) -> Result<Reply, Failed>
-        requires open { L.told → IsOpen self.old.log (L.now logs.old) (L.may logs.old) }
-        ensures steps { L.told → Steps L.now L.may self.old logs.old request self.new logs.new result }
-        ensures given { IfOk result IsGiven }
+        requires open { IsOpenOn L.Volume self.old.log logs.old }
+        ensures steps { StepsOn L.Volume self.old logs.old request self.new logs.new result }
+        ensures given { IfOk result IsReplyInUse }
         ensures cause { HasCause L.exact (L.faults logs.old) (L.faults logs.new) result }
     {
-        laws();
         let Decided {
             reply,
             entry,
@@ -136,26 +137,12 @@ impl Engine {
         }
     }
 
-    /// What stands between two lines, and what a crash leaves: opening finds just what is forced. The call does nothing.
-    pub fn opens_after_crash<L: Volume>(&self, logs: &L)
-        requires open { L.told → IsOpen self.now.log (L.now logs.now) (L.may logs.now) }
-        ensures leaves { L.told → (s : State) → Stands self.now (L.now logs.now) s
-            → LeavesForced self.now.log (L.now logs.now) (L.may logs.now) → LeavesOpening s.forced s (L.may logs.now) }
-        ensures forced { L.told → (s : State) → Stands self.now (L.now logs.now) s → OpensForced s (L.now logs.now) }
-        ensures settled { L.told → (s : State) → Stands self.now (L.now logs.now) s
-            → LeavesForced self.now.log (L.now logs.now) (L.may logs.now) → LogsAreSettled (L.now logs.now) (L.may logs.now) }
-    {
-        laws();
-        let _ = logs;
-    }
-
     /// The end of a script: forces the log. Where a call failed, a crash leaves all that was forced before, or all that there is.
     pub fn end<L: Volume>(&mut self, logs: &mut L) -> Result<(), Failed>
-        requires open { L.told → IsOpen self.old.log (L.now logs.old) (L.may logs.old) }
-        ensures ends { L.told → Ends L.now L.may self.old logs.old self.new logs.new result }
+        requires open { IsOpenOn L.Volume self.old.log logs.old }
+        ensures ends { EndsOn L.Volume self.old logs.old self.new logs.new result }
         ensures cause { HasCause L.exact (L.faults logs.old) (L.faults logs.new) result }
     {
-        laws();
         match write(&mut self.log, logs, None, true) {
             Ok(()) => Ok(()),
             Err(failed) => Err(failed),

@@ -1,25 +1,21 @@
-// The parts of the engine in memory: what a line's answer is, what it does to the log, and how they stand behind it. Nothing here
-// knows of a volume.
+//! The parts of the engine in memory: what a line's answer is, what it does to the log, and how they stand behind it. Nothing here
+//! knows of a volume. All memory is taken before anything changes, so that a refusal leaves all as it was.
 ghost use Rattle.std.specs.Prelude.{◌≡◌, ◌<◌, ◌≤◌, ◌^◌, ◌||◌, ℤ, false, Some, None, IsTrue, ◌↔◌, IfOk, IfSome};
+ghost use Rattle.tt_record.specs.Limits.{transactions_end};
 ghost use Rattle.std.specs.Option.{ForSome};
 ghost use Rattle.tt_record.specs.declared.entry.Entry.TheVariants.{Change};
 ghost use Rattle.tt_value.specs.declared.value.Cell.TheVariants.{Empty, Full};
-ghost use Rattle.tt_log.specs.Logs.{write_of};
+ghost use Rattle.tt_log.specs.Log.{write_position_of, file_size_of};
 ghost use Rattle.tt_journal.specs.LogTrail.{HasEnds};
-ghost use Rattle.tt_journal.specs.Writes.{CanFollow, listed};
+ghost use Rattle.tt_journal.specs.Journal.{CanFollow, listed};
 ghost use Rattle.tt_model.specs.State.{State};
 ghost use Rattle.tt_engine.specs.declared.request.Request.TheVariants.{Bookmark, Commit, DurableCommit, Flush, Insert, Refused};
-ghost use Rattle.tt_engine.specs.Laws.{Laws};
-ghost use Rattle.tt_engine.specs.Requests.{IsGiven, own_number, row_of};
+ghost use Rattle.tt_engine.specs.Request.{IsReplyInUse, own_number, row_of};
 
 use crate::request::Request;
 use crate::rows::{KV, Rows};
 use std::alloc::{AllocError, Global};
 use tt_log::Log;
-use tt_model::{
-    forced_never_falls, next_is_fresh, opening_finds_committed, places_and_first_entries,
-    seen_rows_may_change,
-};
 use tt_record::Entry;
 use tt_value::{Cell, List, Position, Refusal, Reply, Row, Value};
 
@@ -31,15 +27,15 @@ const TRANSACTIONS_END: u64 = 1 << 48;
 pub(crate) struct Memory {
     pub(crate) durable_commits: bool,
     // The number of the next transaction.
-    pub(crate) next: u64,
+    pub(crate) next_transaction: u64,
     // The live transaction of the session.
-    pub(crate) own: Option<u64>,
+    pub(crate) transaction: Option<u64>,
     // Whether the session asked for a durable commit since its last one.
-    pub(crate) wish: bool,
+    pub(crate) next_commit_durable: bool,
     pub(crate) rows: Rows,
-    ghost first: { 1 ≤ next },
-    ghost last: { next ≤ 2 ^ 48 },
-    ghost numbered: { ForSome own (λ t. (1 ≤ t) × (t < next)) },
+    ghost first: { 1 ≤ next_transaction },
+    ghost last: { next_transaction ≤ transactions_end },
+    ghost numbered: { ForSome transaction (λ t. (1 ≤ t) × (t < next_transaction)) },
 }
 
 /// A line's answer, and what it does to the log: the entry that it appends, and whether all is forced behind it.
@@ -48,17 +44,6 @@ pub(crate) struct Decided {
     pub(crate) reply: Reply,
     pub(crate) entry: Option<Entry>,
     pub(crate) force: bool,
-}
-
-// What the model's laws say.
-pub(crate) fn laws()
-    ensures { Laws }
-{
-    forced_never_falls();
-    opening_finds_committed();
-    next_is_fresh();
-    places_and_first_entries();
-    seen_rows_may_change();
 }
 
 // An answer that leaves the log.
@@ -95,18 +80,18 @@ fn insert_entry(
 }
 
 impl Memory {
-    ghost use Rattle.tt_engine.specs.Engines.{InMemory, IsDecided, IsInsert, IsOwnChange};
+    ghost use Rattle.tt_engine.specs.Memory.{InMemory, IsDecided, IsInsert, IsOwnChange, Decides, IsEnding, KeepsRest};
 
     // The number that the session's next change has; `None` where no transaction can begin.
-    fn transaction(&self) -> Option<u64>
-        ensures number { result ≡ own_number self.now.own self.now.next }
-        ensures range { IfSome result (λ t. (1 ≤ t) × (t < 2 ^ 48)) }
+    fn change_number(&self) -> Option<u64>
+        ensures number { result ≡ own_number self.now.transaction self.now.next_transaction }
+        ensures range { IfSome result (λ t. (1 ≤ t) × (t < transactions_end)) }
     {
-        match self.own {
+        match self.transaction {
             Some(transaction) => Some(transaction),
             None => {
-                if self.next < TRANSACTIONS_END {
-                    return Some(self.next);
+                if self.next_transaction < TRANSACTIONS_END {
+                    return Some(self.next_transaction);
                 }
                 None
             }
@@ -118,10 +103,9 @@ impl Memory {
         requires own { IsOwnChange self.old transaction entry }
         ensures decided { (s : State) (value : ℤ) → HasEnds log.now s → InMemory self.old s
             → IsInsert s self.old transaction key value entry → IsDecided (Insert key value) s result self.new }
-        ensures follow { CanFollow log.now.file_size (write_of log.now) (listed result.entry) }
-        ensures given { IsGiven result.reply }
+        ensures follow { CanFollow (file_size_of log.now) (write_position_of log.now) (listed result.entry) }
+        ensures given { IsReplyInUse result.reply }
     {
-        laws();
         if !log.has_place(&entry) {
             return answered(Reply::Refused(Refusal::LogOut));
         }
@@ -129,8 +113,8 @@ impl Memory {
             Ok(()) => {}
             Err(_) => return answered(Reply::Refused(Refusal::NoMemory)),
         }
-        self.own = Some(transaction);
-        self.next = self.next.max(transaction + 1);
+        self.transaction = Some(transaction);
+        self.next_transaction = self.next_transaction.max(transaction + 1);
         Decided {
             reply: Reply::Changed(1),
             entry: Some(entry),
@@ -139,14 +123,14 @@ impl Memory {
     }
 
     fn insert(&mut self, alloc: Global, log: &Log, key: i64, value: i64) -> Decided
-        ensures decided { (s : State) → HasEnds log.now s → InMemory self.old s → IsDecided (Insert key value) s result self.new }
-        ensures follow { CanFollow log.now.file_size (write_of log.now) (listed result.entry) }
-        ensures given { IsGiven result.reply }
+        ensures decided { Decides log.now self.old (Insert key value) result self.new }
+        ensures follow { CanFollow (file_size_of log.now) (write_position_of log.now) (listed result.entry) }
+        ensures given { IsReplyInUse result.reply }
     {
         if self.rows.has_key(key) {
             return answered(Reply::Refused(Refusal::DuplicateKey));
         }
-        let Some(transaction) = self.transaction() else {
+        let Some(transaction) = self.change_number() else {
             return answered(Reply::Refused(Refusal::LogOut));
         };
         let Some(place) = self.rows.free_place() else {
@@ -160,13 +144,13 @@ impl Memory {
 
     // The end of a transaction, by this entry: the log is forced where the commit is durable, and the wish for that ends.
     fn ended(&mut self, entry: Option<Entry>) -> Decided
-        ensures work { (result.reply ≡ Reply.Done) × (result.entry ≡ entry) × (result.force ≡ (self.old.durable_commits || self.old.wish)) }
-        ensures own { (self.new.own ≡ None) × (self.new.wish ≡ false) }
-        ensures still { (self.new.next ≡ self.old.next) × (self.new.durable_commits ≡ self.old.durable_commits) × (self.new.rows ≡ self.old.rows) }
+        ensures work { IsEnding self.old entry result }
+        ensures own { (self.new.transaction ≡ None) × (self.new.next_commit_durable ≡ false) }
+        ensures unchanged { KeepsRest self.old self.new }
     {
-        let force = self.durable_commits || self.wish;
-        self.own = None;
-        self.wish = false;
+        let force = self.durable_commits || self.next_commit_durable;
+        self.transaction = None;
+        self.next_commit_durable = false;
         Decided {
             reply: Reply::Done,
             entry,
@@ -175,12 +159,11 @@ impl Memory {
     }
 
     fn commit(&mut self, log: &Log) -> Decided
-        ensures decided { (s : State) → HasEnds log.now s → InMemory self.old s → IsDecided Commit s result self.new }
-        ensures follow { CanFollow log.now.file_size (write_of log.now) (listed result.entry) }
-        ensures given { IsGiven result.reply }
+        ensures decided { Decides log.now self.old Commit result self.new }
+        ensures follow { CanFollow (file_size_of log.now) (write_position_of log.now) (listed result.entry) }
+        ensures given { IsReplyInUse result.reply }
     {
-        laws();
-        let Some(transaction) = self.own else {
+        let Some(transaction) = self.transaction else {
             return self.ended(None);
         };
         let entry = Entry::Commit { transaction };
@@ -191,20 +174,20 @@ impl Memory {
     }
 
     // Wishes that the next commit is durable.
-    fn wish(&mut self) -> Decided
+    fn make_next_durable(&mut self) -> Decided
         ensures decided { (s : State) → InMemory self.old s → IsDecided DurableCommit s result self.new }
         ensures entry { result.entry ≡ None }
-        ensures given { IsGiven result.reply }
+        ensures given { IsReplyInUse result.reply }
     {
-        self.wish = true;
+        self.next_commit_durable = true;
         answered(Reply::Done)
     }
 
     // The positions of the log. No checkpoint file holds a later one than its beginning.
     fn positions(&self, log: &Log) -> Decided
-        ensures decided { (s : State) → HasEnds log.now s → InMemory self.now s → IsDecided Bookmark s result self.now }
+        ensures decided { Decides log.now self.now Bookmark result self.now }
         ensures entry { result.entry ≡ None }
-        ensures given { IsGiven result.reply }
+        ensures given { IsReplyInUse result.reply }
     {
         answered(Reply::Positions {
             write: log.write_position(),
@@ -216,9 +199,9 @@ impl Memory {
     /// Decides a line: its answer, and what it does to the log. The memory stands behind the line from then on; after a refusal,
     /// want of memory too, it is as it was.
     pub(crate) fn decide(&mut self, alloc: Global, log: &Log, request: Request) -> Decided
-        ensures decided { (s : State) → HasEnds log.now s → InMemory self.old s → IsDecided request s result self.new }
-        ensures follow { CanFollow log.now.file_size (write_of log.now) (listed result.entry) }
-        ensures given { IsGiven result.reply }
+        ensures decided { Decides log.now self.old request result self.new }
+        ensures follow { CanFollow (file_size_of log.now) (write_position_of log.now) (listed result.entry) }
+        ensures given { IsReplyInUse result.reply }
     {
         match request {
             Request::Insert { key, value } => self.insert(alloc, log, key, value),
@@ -228,7 +211,7 @@ impl Memory {
                 entry: None,
                 force: true,
             },
-            Request::DurableCommit => self.wish(),
+            Request::DurableCommit => self.make_next_durable(),
             Request::Bookmark => self.positions(log),
             Request::Refused(refusal) => answered(Reply::Refused(refusal)),
         }

@@ -7,7 +7,7 @@ use Rattle.std.proofs.lemmas.List.Splits.{length-slice_split}
 use Rattle.std.specs.Str.Lines.{lines, lines_of_parts, strip_carriage_return}
 use Rattle.tt_flow.specs.Script.{measured, script_lines, ended_part}
 use Rattle.tt_flow.specs.PutsLine.{told_line}
-use Rattle.tt_flow.specs.Reading.{HasNoFeed}
+use Rattle.tt_flow.specs.Lines.{HasNoFeed}
 
 abbrev feed : ℕ → Bool
 feed b = b == 10

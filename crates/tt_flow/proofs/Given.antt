@@ -8,7 +8,7 @@ use Rattle.tt_flow.specs.declared.lines.LineRead.{LineRead}
 use Rattle.tt_flow.specs.declared.lines.LineRead.TheVariants.{Line, TooLong, End, ScriptTooLong}
 use Rattle.tt_flow.specs.Script.{measured, script_lines, script_most, ended_part, ended_lines}
 use Rattle.tt_flow.specs.PutsLine.{told_line, PutsLine}
-use Rattle.tt_flow.specs.Reading.{HasGiven, HasNoFeed, Reads, kept_bytes}
+use Rattle.tt_flow.specs.Lines.{HasGiven, HasNoFeed, Reads, kept_bytes}
 use Rattle.tt_flow.specs.Pieces.{Took}
 use Rattle.tt_flow.proofs.Cuts.{script_lines_feed, script_lines_last, script_lines_cut, ended_part_none, ended_part_feed, no_feed_append, told_line-strip, told_line-last}
 

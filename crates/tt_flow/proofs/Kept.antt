@@ -8,7 +8,7 @@ use Rattle.memchr.specs.Find.{NoneBefore}
 use Rattle.tt_flow.proofs.Cuts.{no_feed_append}
 use Rattle.std.proofs.lemmas.Bool.Decides.{nat_tests}
 use Rattle.std.specs.List.{list_any}
-use Rattle.tt_flow.specs.Reading.{HasNoFeed}
+use Rattle.tt_flow.specs.Lines.{HasNoFeed}
 use Rattle.tt_flow.specs.Pieces.{IsFirstFeed}
 
 pub kept_after : (start end count : ℕ) (buffer : List ℕ) → start + count ≤ end
@@ -85,7 +85,7 @@ kept_put start end room count buffer part ordered within fits =
     ap (take (end + count - start)) front ∙ ap (λ n. take n (kept ++ (part ++ rest))) sum ∙ take-append-add kept (part ++ rest) count
     ∙ ap (λ l. kept ++ l) (take-append-le count part rest fits)
 
--- and a write behind them alone leaves them
+-- a write past the kept bytes leaves them
 pub kept_put_none : (start end room : ℕ) (buffer part : List ℕ) → start ≤ end → end ≤ length buffer
     → take (end - start) (drop start (put_mid end room buffer part)) ≡ take (end - start) (drop start buffer) ++ []
 kept_put_none start end room buffer part ordered within =

@@ -9,8 +9,8 @@ use Rattle.tt_flow.specs.declared.lines.LineRead.{LineRead}
 use Rattle.tt_flow.specs.declared.lines.Filled.{Filled}
 use Rattle.tt_flow.specs.declared.lines.Filled.TheVariants.{More, NoMore, TooMany}
 use Rattle.tt_flow.specs.Script.{script_most}
-use Rattle.tt_flow.specs.Reading.{HasGiven, HasNoFeed, Reads, kept_bytes}
-use Rattle.tt_flow.specs.Pieces.{Took, Takes, TakesPast, Fills, ReadsPiece, IsSame}
+use Rattle.tt_flow.specs.Lines.{HasGiven, HasNoFeed, Reads, kept_bytes}
+use Rattle.tt_flow.specs.Pieces.{Took, Takes, TakesPast, Fills, ReadsPiece, ChangesOnlyBuffer}
 use Rattle.tt_flow.proofs.Given.{given_took, given_ended, length-script}
 
 pub Takes-err : (bytes : List ℕ) (r : Result Filled Failed) (old new : LineReader) → IsErr r → Took bytes old new × (bytes ≡ []) × (new.input ≡ old.input) → Takes bytes r old new
@@ -72,7 +72,7 @@ Fills-more old new bytes (Err failed) (Some rest) no_feed opened took end script
     fills_err old new no_feed opened (none_taken old new bytes took.1 took.0) took.2 script left rest given failed (nothing_taken bytes left rest took.1 consumed) h
 
 -- a reader that moved its bytes alone
-pub given_same : (old new : LineReader) → kept_bytes new ≡ kept_bytes old → IsSame old new → old.input ≡ Open
+pub given_same : (old new : LineReader) → kept_bytes new ≡ kept_bytes old → ChangesOnlyBuffer old new → old.input ≡ Open
     → (script left : List ℕ) (given : List (Option (List ℕ))) → HasGiven script given old left → HasGiven script given new left
 given_same old new kept same opened script left given h =
     given_took old new [] (record { kept = kept ∙ sym (append-nil (kept_bytes old)); taken = omega (arith, same.taken); skipping = same.skipping }) opened

@@ -1,5 +1,6 @@
+pub mod LineBuf
+pub mod Lines
 pub mod Memory
 pub mod Pieces
 pub mod PutsLine
-pub mod Reading
 pub mod Script

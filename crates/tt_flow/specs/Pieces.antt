@@ -7,7 +7,7 @@ use Rattle.tt_flow.specs.declared.lines.LineRead.{LineRead}
 use Rattle.tt_flow.specs.declared.lines.LineRead.TheVariants.{ScriptTooLong}
 use Rattle.tt_flow.specs.declared.lines.Filled.{Filled}
 use Rattle.tt_flow.specs.declared.lines.Filled.TheVariants.{More, NoMore, TooMany}
-use Rattle.tt_flow.specs.Reading.{HasGiven, HasGivenTold, Reads, IsLine, HasNoFeed, kept_bytes}
+use Rattle.tt_flow.specs.Lines.{HasGiven, HasGivenTold, Reads, IsLine, HasNoFeed, kept_bytes}
 
 -- the first line feed of these bytes stands here
 pub record IsFirstFeed (bytes : List ℕ) (at : ℕ) : Type 0 where
@@ -16,7 +16,7 @@ pub record IsFirstFeed (bytes : List ℕ) (at : ℕ) : Type 0 where
   pub before : HasNoFeed (take at bytes)
 
 -- apart from its buffer the reader is as before
-pub record IsSame (old new : LineReader) : Type 0 where
+pub record ChangesOnlyBuffer (old new : LineReader) : Type 0 where
   pub taken : new.taken ≡ old.taken
   pub skipping : new.skipping ≡ old.skipping
   pub input : new.input ≡ old.input
@@ -47,7 +47,7 @@ Fills script given (Ok NoMore) reader left = HasGivenTold script given reader le
 Fills script given (Ok TooMany) reader left = Reads script given (Ok ScriptTooLong) [] reader left
 Fills script given (Err failed) reader left = Reads script given (Err failed) [] reader left
 
--- the reader has these bytes behind those that it kept
+-- the reader has these bytes after those that it kept
 pub record Took (bytes : List ℕ) (old new : LineReader) : Type 0 where
   pub kept : kept_bytes new ≡ kept_bytes old ++ bytes
   pub taken : new.taken ≡ old.taken + length bytes
@@ -66,3 +66,19 @@ TakesPast bytes (Ok More) old new = ⊥
 TakesPast bytes (Ok NoMore) old new = Took [] old new × (bytes ≡ []) × (new.input ≡ Ended)
 TakesPast bytes (Ok TooMany) old new = Took [] old new × (0 < length bytes) × (new.input ≡ Over)
 TakesPast bytes (Err failed) old new = Took [] old new × (bytes ≡ []) × (new.input ≡ old.input)
+
+-- Whatever lines were given of a script, a line more is given, or the reader has more bytes of it.
+abbrev pub ReadsPieceOn : LineReader → Option (List ℕ) → Result (Option LineRead) Failed → List ℕ → LineReader → Option (List ℕ) → Type 0
+ReadsPieceOn old before result line new after =
+    (script left : List ℕ) (given : List (Option (List ℕ))) → before ≡ Some left → HasGiven script given old left
+    → ReadsPiece script given result line new after
+
+-- Whatever lines were given of a script, the reader has more bytes of it, or its end.
+abbrev pub FillsOn : LineReader → Option (List ℕ) → Result Filled Failed → LineReader → Option (List ℕ) → Type 0
+FillsOn old before result new after =
+    (script left : List ℕ) (given : List (Option (List ℕ))) → before ≡ Some left → HasGiven script given old left
+    → Fills script given result new after
+
+-- The source has ended, and the reader has the bytes that it had.
+abbrev pub HasNoMore : LineReader → LineReader → Type 0
+HasNoMore old new = (new.input ≡ Ended) × (kept_bytes new ≡ kept_bytes old)

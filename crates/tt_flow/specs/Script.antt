@@ -2,10 +2,11 @@
 use Rattle.std.specs.Prelude.{ℕ, ◌^◌, ◌==◌, nat_le, if◌then◌else◌, List, [], ◌∷◌, length, map, Option, Some, None}
 use Rattle.std.specs.List.{list_any}
 use Rattle.std.specs.Str.Lines.{lines}
+use Rattle.tt_flow.specs.LineBuf.{line_most}
 
--- a line, or None where it has more than 4,096 bytes
+-- a line, or None where it is too long
 abbrev pub measured : List ℕ → Option (List ℕ)
-measured line = if nat_le (length line) 4096 then Some line else None
+measured line = if nat_le (length line) line_most then Some line else None
 
 -- The lines of a script. A line ends with a line feed or the end of the script, and one carriage return before its line
 -- feed is dropped. Nothing behind the last line feed is no line.
@@ -24,3 +25,7 @@ ended_lines bytes = script_lines (ended_part bytes)
 -- how many bytes of a script are taken: a longer one is too long
 abbrev pub script_most : ℕ
 script_most = 2 ^ 30
+
+-- how many bytes a reader of lines has room for
+abbrev pub buffer_size : ℕ
+buffer_size = 8192

@@ -1,4 +1,4 @@
-// Readers and writers of std as streams.
+//! Readers and writers of std as streams. A call that was interrupted is made again, and each piece that is written is flushed.
 ghost use Rattle.std.specs.Prelude.{◌≡◌, ◌≤◌, ◌<◌, ℕ, List, length, take, OnErr};
 ghost use Rattle.std.specs.Io.{ReadsAtMost};
 ghost use Rattle.std.specs.Io.KnownBytes.{ReadConsumes, Appends};
@@ -39,7 +39,7 @@ impl<R: Read> Source for ReadSource<R> {
     ghost exact = { Unit {0} };
 
     fn take(&mut self, buf: &mut [u8]) -> Result<usize, Failed> {
-        match read_whole(&mut self.reader, buf) {
+        match read_once(&mut self.reader, buf) {
             Ok(count) => Ok(count),
             Err(failed) => {
                 self.faults = self.faults.saturating_add(1);
@@ -67,7 +67,7 @@ impl<W: Write> Sink for WriteSink<W> {
     ghost exact = { Unit {0} };
 
     fn put(&mut self, piece: &[u8]) -> Result<(), Failed> {
-        let count = write_front(&mut self.writer, piece);
+        let count = write_piece(&mut self.writer, piece);
         if count < piece.len() || self.writer.flush().is_err() {
             self.faults = self.faults.saturating_add(1);
             return Err(Failed);
@@ -76,8 +76,8 @@ impl<W: Write> Sink for WriteSink<W> {
     }
 }
 
-// Reads once, and again where it was interrupted.
-fn read_whole<R: Read>(reader: &mut R, buf: &mut [u8]) -> Result<usize, Failed>
+// Reads once, in as many tries as it takes where reads are interrupted.
+fn read_once<R: Read>(reader: &mut R, buf: &mut [u8]) -> Result<usize, Failed>
     ensures bound { ReadsAtMost result buf.new }
     ensures bytes { ReadConsumes (R.remaining reader.old) (R.remaining reader.new) result buf.new }
 {
@@ -95,7 +95,7 @@ fn read_whole<R: Read>(reader: &mut R, buf: &mut [u8]) -> Result<usize, Failed>
 }
 
 // Writes the piece, in as many calls as it takes, and answers how many bytes of it were written: all, unless a call failed.
-fn write_front<W: Write>(writer: &mut W, piece: &[u8]) -> usize
+fn write_piece<W: Write>(writer: &mut W, piece: &[u8]) -> usize
     ensures within { result ≤ length piece.now }
     ensures bytes { Appends (W.contents writer.old) (W.contents writer.new) (take result piece.now) }
 {

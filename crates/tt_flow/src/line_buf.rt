@@ -1,5 +1,6 @@
-// The last line of a script that was read.
+//! The last line of a script that was read, in a place of its own.
 ghost use Rattle.std.specs.Prelude.{◌≡◌, ◌≤◌, ℕ, List, [], length, take};
+ghost use Rattle.tt_flow.specs.LineBuf.{line_most};
 
 use std::marker::Model;
 
@@ -15,12 +16,13 @@ pub struct LineBuf {
 
 impl Model for LineBuf {
     ghost use Rattle.std.specs.Prelude.{◌≤◌, ℕ, List, take};
+    ghost use Rattle.tt_flow.specs.LineBuf.{line_most};
 
     ghost Value = { List ℕ };
 
     ghost view = { λ b. take b.length b.bytes };
 
-    ghost invariant = { λ b. b.length ≤ 4096 };
+    ghost invariant = { λ b. b.length ≤ line_most };
 }
 
 impl LineBuf {
@@ -37,14 +39,14 @@ impl LineBuf {
     /// The last line, of at most 4,096 bytes.
     pub fn line(&self) -> &[u8]
         ensures line { result.now ≡ self.now }
-        ensures short { length result.now ≤ 4096 }
+        ensures short { length result.now ≤ line_most }
     {
         &self.bytes[..self.length]
     }
 
     // Puts a line in the place of the last one.
     pub(crate) fn set(&mut self, line: &[u8])
-        requires { length line.now ≤ 4096 }
+        requires { length line.now ≤ line_most }
         ensures { self.new ≡ line.now }
     {
         self.bytes[..line.len()].copy_from_slice(line);

@@ -1,9 +1,14 @@
-// Lines, read from a source in pieces.
-ghost use Rattle.std.specs.Prelude.{◌≡◌, ◌≢◌, ◌≤◌, ◌<◌, ◌-◌, ◌^◌, ◌++◌, ℕ, List, [], Option, Some, None, Ok, OnOk, MatchOption, length, take};
+//! The lines of a script, read from a source in pieces.
+//!
+//! The bytes that were taken and not yet given lie in a buffer, in one piece. A call gives the line that they begin with, and
+//! takes more only where they have no line feed. Of a line that is too long no byte is kept.
+ghost use Rattle.std.specs.Prelude.{◌≡◌, ◌≢◌, ◌≤◌, ◌<◌, ◌+◌, ◌-◌, ◌++◌, ℕ, List, [], Option, Some, None, Ok, OnOk, MatchOption, length, take};
 ghost use Rattle.std.specs.Str.Lines.{strip_carriage_return};
 ghost use Rattle.std.specs.Io.KnownBytes.{Consumes, IsAtEnd};
-ghost use Rattle.tt_disk.specs.Causes.{HasCause};
+ghost use Rattle.tt_disk.specs.Faults.{HasCause};
 ghost use Rattle.tt_flow.specs.PutsLine.{PutsLine};
+ghost use Rattle.tt_flow.specs.LineBuf.{line_most};
+ghost use Rattle.tt_flow.specs.Script.{script_most, buffer_size};
 
 use crate::line_buf::LINE_MOST;
 use crate::{LineBuf, Source};
@@ -57,13 +62,13 @@ pub struct LineReader {
     skipping: bool,
     input: Input,
     ghost ordered: { start ≤ end },
-    ghost within: { end ≤ 8192 },
-    ghost most: { taken ≤ 2 ^ 30 },
+    ghost within: { end ≤ buffer_size },
+    ghost most: { taken ≤ script_most },
 }
 
 impl LineReader {
-    ghost use Rattle.tt_flow.specs.Reading.{HasGiven, Reads, HoldsLine, IsLine, IsOver, HasNoFeed, bytes_to_come, kept_bytes};
-    ghost use Rattle.tt_flow.specs.Pieces.{IsFirstFeed, IsSame, KeepsGiven, GivesLine, ReadsPiece, IsPieceLine, Fills, Takes, TakesPast};
+    ghost use Rattle.tt_flow.specs.Lines.{HasGiven, Reads, HoldsLine, IsLine, IsOver, HasNoFeed, bytes_to_come, kept_bytes, ReadsOn};
+    ghost use Rattle.tt_flow.specs.Pieces.{IsFirstFeed, ChangesOnlyBuffer, KeepsGiven, GivesLine, ReadsPiece, IsPieceLine, Fills, Takes, TakesPast, ReadsPieceOn, FillsOn, HasNoMore};
 
     /// A reader that has read nothing.
     pub fn new() -> LineReader
@@ -87,8 +92,7 @@ impl LineReader {
         line: &mut LineBuf,
     ) -> Result<LineRead, Failed>
         // What each answer says of the script, where the source tells what it has left.
-        ensures read { (script left : List ℕ) (given : List (Option (List ℕ))) → S.left source.old ≡ Some left → HasGiven script given self.old left
-            → Reads script given result line.new self.new (S.left source.new) }
+        ensures read { ReadsOn self.old (S.left source.old) result line.new self.new (S.left source.new) }
         ensures buffered { HoldsLine self.old → source.new ≡ source.old }
         ensures fewer { IsLine result → bytes_to_come self.new < bytes_to_come self.old }
         ensures over { IsOver self.old → result ≡ Ok LineRead.ScriptTooLong }
@@ -111,8 +115,7 @@ impl LineReader {
         line: &mut LineBuf,
     ) -> Result<LineRead, Failed>
         requires { HasNoFeed (kept_bytes self.old) }
-        ensures read { (script left : List ℕ) (given : List (Option (List ℕ))) → S.left source.old ≡ Some left → HasGiven script given self.old left
-            → Reads script given result line.new self.new (S.left source.new) }
+        ensures read { ReadsOn self.old (S.left source.old) result line.new self.new (S.left source.new) }
         ensures fewer { IsLine result → bytes_to_come self.new < bytes_to_come self.old }
         ensures stays { result ≡ Ok LineRead.ScriptTooLong → IsOver self.new }
         ensures cause { HasCause S.exact (S.faults source.old) (S.faults source.new) result }
@@ -131,8 +134,7 @@ impl LineReader {
         line: &mut LineBuf,
     ) -> Result<Option<LineRead>, Failed>
         requires { HasNoFeed (kept_bytes self.old) }
-        ensures read { (script left : List ℕ) (given : List (Option (List ℕ))) → S.left source.old ≡ Some left → HasGiven script given self.old left
-            → ReadsPiece script given result line.new self.new (S.left source.new) }
+        ensures read { ReadsPieceOn self.old (S.left source.old) result line.new self.new (S.left source.new) }
         ensures goes_on { result ≡ Ok None → HasNoFeed (kept_bytes self.new) × (self.old.taken < self.new.taken) }
         ensures bound { OnOk result (bytes_to_come self.new ≤ bytes_to_come self.old) }
         ensures fewer { IsPieceLine result → bytes_to_come self.new < bytes_to_come self.old }
@@ -201,7 +203,7 @@ impl LineReader {
         ensures count { result ≡ length (kept_bytes self.new) }
         ensures given { KeepsGiven self.old self.new }
         ensures none { HasNoFeed (kept_bytes self.new) }
-        ensures few { self.new.end - self.new.start < 4098 }
+        ensures few { self.new.end - self.new.start < line_most + 2 }
         ensures taken { self.new.taken ≡ self.old.taken }
         ensures bound { bytes_to_come self.new ≤ bytes_to_come self.old }
     {
@@ -215,16 +217,15 @@ impl LineReader {
         0
     }
 
-    // Takes from the source behind the kept bytes.
+    // Takes from the source, and puts it after the kept bytes.
     fn fill<S: Source>(&mut self, source: &mut S) -> Result<Filled, Failed>
         requires none { HasNoFeed (kept_bytes self.old) }
-        requires few { self.old.end - self.old.start < 4098 }
-        ensures read { (script left : List ℕ) (given : List (Option (List ℕ))) → S.left source.old ≡ Some left → HasGiven script given self.old left
-            → Fills script given result self.new (S.left source.new) }
+        requires few { self.old.end - self.old.start < line_most + 2 }
+        ensures read { FillsOn self.old (S.left source.old) result self.new (S.left source.new) }
         ensures kept { (bytes : List ℕ) × (kept_bytes self.new ≡ kept_bytes self.old ++ bytes) }
         ensures bound { bytes_to_come self.new ≤ bytes_to_come self.old }
         ensures more { result ≡ Ok Filled.More → self.old.taken < self.new.taken }
-        ensures no_more { result ≡ Ok Filled.NoMore → (self.new.input ≡ Input.Ended) × (kept_bytes self.new ≡ kept_bytes self.old) }
+        ensures no_more { result ≡ Ok Filled.NoMore → HasNoMore self.old self.new }
         ensures too_many { result ≡ Ok Filled.TooMany → IsOver self.new }
         ensures cause { HasCause S.exact (S.faults source.old) (S.faults source.new) result }
     {
@@ -239,12 +240,12 @@ impl LineReader {
         }
     }
 
-    // Makes room behind the kept bytes.
+    // Makes room after the kept bytes.
     fn make_room(&mut self)
-        requires { self.old.end - self.old.start < 4098 }
+        requires { self.old.end - self.old.start < line_most + 2 }
         ensures kept { kept_bytes self.new ≡ kept_bytes self.old }
-        ensures room { self.new.end < 8192 }
-        ensures same { IsSame self.old self.new }
+        ensures room { self.new.end < buffer_size }
+        ensures unchanged { ChangesOnlyBuffer self.old self.new }
         ensures bound { bytes_to_come self.new ≤ bytes_to_come self.old }
     {
         if self.start == self.end {
@@ -260,8 +261,8 @@ impl LineReader {
     // Takes as much as there is room for.
     fn take_more<S: Source>(&mut self, source: &mut S) -> Result<Filled, Failed>
         requires open { self.old.input ≡ Input.Open }
-        requires room { self.old.end < 8192 }
-        requires most { self.old.taken < 2 ^ 30 }
+        requires room { self.old.end < buffer_size }
+        requires most { self.old.taken < script_most }
         ensures took { (bytes : List ℕ) × Takes bytes result self.old self.new × Consumes (S.left source.old) (S.left source.new) bytes }
         ensures end { result ≡ Ok Filled.NoMore → IsAtEnd (S.left source.new) }
         ensures bound { bytes_to_come self.new ≤ bytes_to_come self.old }
@@ -317,3 +318,6 @@ fn put_line(body: &[u8], skipping: bool, line: &mut LineBuf) -> LineRead
     line.set(body);
     LineRead::Line
 }
+
+#[cfg(test)]
+mod tests;

@@ -1,9 +1,9 @@
-// What is read from and written to.
+//! Streams of bytes: what is read from and written to, with a count of faults.
 ghost use Rattle.std.specs.Prelude.{◌≡◌, ℕ, List, take, OnOk, OnErr};
 ghost use Rattle.std.specs.declared.option.Option.{Option};
 ghost use Rattle.std.specs.Io.{ReadsAtMost};
 ghost use Rattle.std.specs.Io.KnownBytes.{ReadConsumes, Appends};
-ghost use Rattle.tt_disk.specs.Causes.{HasCause};
+ghost use Rattle.tt_disk.specs.Faults.{HasCause};
 
 use tt_disk::Failed;
 

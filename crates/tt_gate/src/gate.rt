@@ -1,9 +1,12 @@
-// A file of a header and batches behind gate bytes.
-ghost use Rattle.std.specs.Prelude.{◌≡◌, ◌⊎◌, ◌+◌, ◌-◌, ◌^◌, ◌<◌, ◌≤◌, Option, List, [], ◌∷◌, ◌++◌, ℕ, length, OnOk, OnErr, IfOk, Ok, Some, IsErrOf, IfErr};
-ghost use Rattle.tt_disk.specs.Causes.{HasCause, RoseWhere};
-ghost use Rattle.tt_disk.specs.Volume.{Keeps, IsSettled};
-ghost use Rattle.tt_disk.specs.Laws.{OnlyAt};
-ghost use Rattle.tt_gate.specs.Gate.{gated};
+//! A file of a header and batches, each of which a crash leaves whole or not at all.
+//!
+//! A batch lies behind a gate of one byte, and counts only where the gate is open. Its bytes, its
+//! length and the closed gate behind it are written and synced first, and the gate is opened by a
+//! write of one byte, which is synced too. A reader goes from gate to gate up to the first closed
+//! one, and so never looks at bytes that a crash may have torn.
+ghost use Rattle.std.specs.Prelude.{◌≡◌, ◌⊎◌, ◌+◌, ◌^◌, ◌<◌, ◌≤◌, Option, List, [], ◌∷◌, ◌++◌, ℕ, length, OnOk, OnErr, IfOk, IsErrOf, IfErr};
+ghost use Rattle.tt_disk.specs.Calls.{KeepsFiles, ChangesOnly, SettlesFile};
+ghost use Rattle.tt_gate.specs.Limits.{LONGEST_FILE};
 
 use crate::walk::{check_header, last_gate};
 use tt_disk::{Failed, Name, Volume};
@@ -55,9 +58,11 @@ pub enum Gate {
 ///
 /// The volume that the calls are given must be the one that the file was made or found in, or in
 /// which its closed gate lies where `at_end` was told, and no other call may have changed the file
-/// since. Where a call fails, the value still stands for the same gate, but the file may have the
-/// new batch or a part of one: it has to be found again before more is added to it. No call takes
-/// memory.
+/// since.
+///
+/// Where a call fails, the value still stands for the same gate. After `stage` it can be used on as
+/// before. After `finish` and `append_batch` the file may have the new batch or a part of one: it
+/// has to be found again before more is added to it. No call takes memory.
 #[derive(Debug, Drop)]
 pub struct GateFile {
     name: Name,
@@ -67,13 +72,19 @@ pub struct GateFile {
     staged: u64,
     // Whether the file was synced since it was found. What is found may be in a cache alone, and a
     // batch that is written behind others than those on the disk would break them.
-    settled: bool,
-    ghost in_range: { gate + staged ≤ 2 ^ 62 },
+    synced: bool,
+    ghost in_range: { gate + staged ≤ LONGEST_FILE },
 }
 
 impl GateFile {
     ghost use Rattle.std.specs.Prelude.{true};
-    ghost use Rattle.tt_gate.specs.Standing.{LeavesFormer, LeavesFormerOrMore, IsEnd, IsReady, IsSynced, LieAt, Stands, StandsSomehow, Leaves, IsSo, IsLaid, LeavesThese, LeavesAtMost, LeavesOneMore, StandsStill, staged_in, with_batch};
+    ghost use Rattle.tt_gate.specs.Calls.{HasCauseOn, RoseWhereOn};
+    ghost use Rattle.tt_gate.specs.Calls.{IsReadyOn, IsLaidOn, HasBytesOn, ReadsOn, IsWholeOn, RefusalHoldsOn, KeepsBatchesOn, StagesOn, KeepsStagedOn, StagedLiesOn};
+    ghost use Rattle.tt_gate.specs.Calls.{AddsBatchOn, AddsStagedOn, StaysAtMostOn, CrashKeepsBatchesOn, CrashLeavesFormerOn, CrashLeavesOneMoreOn};
+    ghost use Rattle.tt_gate.specs.Calls.{CrashAddsStagedOn, CrashLeavesBatchOn, CrashLeavesFormerOrMoreOn};
+    ghost use Rattle.tt_gate.specs.Limits.{NEW_FILE_LENGTH};
+    ghost use Rattle.tt_gate.specs.GateFile.{IsEnd, IsFresh, IsLaid, IsSynced, StandsStill};
+    ghost use Rattle.tt_gate.specs.GateFile.{name_of, gate_offset_of, staged_bytes_of};
 
     /// Makes the file, with this header and no batch, and syncs it. A file of this name that is
     /// there is emptied first.
@@ -85,21 +96,17 @@ impl GateFile {
         name: Name,
         header: &[u8; 16],
     ) -> Result<GateFile, Failed>
-        ensures ready { V.told → IfOk result
-            (λ file. IsReady file (V.now volume.new) (V.may volume.new)) }
-        ensures done { V.told → OnOk result (gated (V.now volume.new name) ≡ Ok (header.now, [])) }
-        ensures bytes { V.told → OnOk result (V.now volume.new name ≡ Some (header.now ++ 0 ∷ [])) }
-        ensures settled { V.told → OnOk result
-            (IsSettled name (V.now volume.new) (V.may volume.new)) }
-        ensures fresh { IfOk result (λ file. (file.name ≡ name) × (file.staged ≡ 0)) }
+        ensures ready { IfOk result (λ file. IsReadyOn V.Volume file volume.new) }
+        ensures done { OnOk result (ReadsOn V.Volume name header.now [] volume.new) }
+        ensures bytes { OnOk result (HasBytesOn V.Volume name (header.now ++ 0 ∷ []) volume.new) }
+        ensures settled { SettlesFile V.Volume name volume.new result }
+        ensures fresh { IfOk result (λ file. IsFresh name file) }
         ensures synced { IfOk result (λ file. IsSynced file) }
 
         // Where it fails, a crash leaves no more than a new file has, if it couldn't leave more before.
-        ensures short { V.told → LeavesAtMost 17 (V.may volume.old name)
-            → LeavesAtMost 17 (V.may volume.new name) }
-        ensures others { V.told → OnlyAt name (V.now volume.old) (V.now volume.new)
-            (V.may volume.old) (V.may volume.new) }
-        ensures cause { HasCause V.exact (V.faults volume.old) (V.faults volume.new) result }
+        ensures short { StaysAtMostOn V.Volume NEW_FILE_LENGTH name volume.old volume.new }
+        ensures others { ChangesOnly V.Volume name volume.old volume.new }
+        ensures cause { HasCauseOn V.Volume volume.old volume.new result }
     {
         volume.create(name)?;
         volume.write_at(name, 0, header)?;
@@ -109,7 +116,7 @@ impl GateFile {
             name,
             gate: 16,
             staged: 0,
-            settled: true,
+            synced: true,
         })
     }
 
@@ -123,16 +130,12 @@ impl GateFile {
         name: Name,
         header: &[u8; 16],
     ) -> Result<GateFile, GateRefusal>
-        ensures found { V.told → OnOk result ((bodies : List (List ℕ))
-            × (gated (V.now volume.old name) ≡ Ok (header.now, bodies))) }
-        ensures fresh { IfOk result (λ file. (file.name ≡ name) × (file.staged ≡ 0)) }
-        ensures refused { V.told → IfErr result (λ e. IsSo header.now (V.now volume.old name) e) }
-        ensures ready { V.told → IfOk result
-            (λ file. IsReady file (V.now volume.new) (V.may volume.new)) }
-        ensures keeps { V.told → Keeps (V.now volume.old) (V.now volume.new)
-            (V.may volume.old) (V.may volume.new) }
-        ensures cause { RoseWhere V.exact (IsErrOf result GateRefusal.Failed) (V.faults volume.old)
-            (V.faults volume.new) }
+        ensures found { OnOk result (IsWholeOn V.Volume name header.now volume.old) }
+        ensures fresh { IfOk result (λ file. IsFresh name file) }
+        ensures refused { IfErr result (λ e. RefusalHoldsOn V.Volume name header.now volume.old e) }
+        ensures ready { IfOk result (λ file. IsReadyOn V.Volume file volume.new) }
+        ensures keeps { KeepsFiles V.Volume volume.old volume.new }
+        ensures cause { RoseWhereOn V.Volume volume.old volume.new (IsErrOf result GateRefusal.Failed) }
     {
         check_header(volume, name, header)?;
         let gate = last_gate(volume, name)?;
@@ -144,122 +147,41 @@ impl GateFile {
     /// answer is `Closed`. It isn't looked at: no call of a volume is made. Of what the file has
     /// nothing needs to be on the disk yet: the first `stage` syncs it.
     pub fn at_end(name: Name, gate: u64) -> GateFile
-        requires range { gate ≤ 2 ^ 62 }
+        requires range { gate ≤ LONGEST_FILE }
         // Where it lies there, the file is whole, and stands as the value says.
         ensures laid { (now : Name → Option (List ℕ)) → IsEnd (now name) gate → IsLaid result now }
-        ensures fresh { (result.name ≡ name) × (result.staged ≡ 0) }
+        ensures fresh { IsFresh name result }
         ensures unsynced { ¬ IsSynced result }
     {
         GateFile {
             name,
             gate,
             staged: 0,
-            settled: false,
+            synced: false,
         }
-    }
-
-    // Writes eight zero bytes behind the gate, where nothing is staged: the length's place, so that
-    // the first piece isn't written past the file's end.
-    fn make_place<V: Volume>(&self, volume: &mut V) -> Result<(), Failed>
-        requires stands { V.told → StandsSomehow self.now (V.now volume.old) }
-        ensures laid { V.told → (header : List ℕ) (bodies : List (List ℕ)) (staged : List ℕ)
-            → Stands header bodies staged self.now (V.now volume.old)
-            → OnOk result (LieAt (9 + self.now.gate) staged (V.now volume.new self.now.name)) }
-        ensures reads { V.told → (header : List ℕ) (bodies : List (List ℕ)) (staged : List ℕ)
-            → Stands header bodies staged self.now (V.now volume.old)
-            → gated (V.now volume.new self.now.name) ≡ Ok (header, bodies) }
-        ensures crash { V.told → (header : List ℕ) (bodies : List (List ℕ)) (staged : List ℕ)
-            → Stands header bodies staged self.now (V.now volume.old)
-            → Leaves header bodies (V.may volume.old self.now.name)
-            → Leaves header bodies (V.may volume.new self.now.name) }
-        ensures others { V.told → OnlyAt self.now.name (V.now volume.old) (V.now volume.new)
-            (V.may volume.old) (V.may volume.new) }
-        ensures cause { HasCause V.exact (V.faults volume.old) (V.faults volume.new) result }
-    {
-        if self.staged > 0 {
-            return Ok(());
-        }
-        volume.write_at(self.name, self.gate + 1, &[0; 8])
-    }
-
-    // Adds to what is staged, where the file was synced.
-    fn add_piece<V: Volume>(&mut self, volume: &mut V, piece: &[u8]) -> Result<(), Failed>
-        requires ready { V.told → IsLaid self.old (V.now volume.old) }
-        ensures ready { V.told → OnOk result (IsLaid self.new (V.now volume.new)) }
-        ensures staged { V.told → OnOk result (staged_in self.new (V.now volume.new self.old.name)
-            ≡ staged_in self.old (V.now volume.old self.old.name) ++ piece.now) }
-        ensures same { V.told → gated (V.now volume.new self.old.name)
-            ≡ gated (V.now volume.old self.old.name) }
-        ensures crash { V.told → LeavesThese (gated (V.now volume.old self.old.name))
-            (V.may volume.old self.old.name)
-            → LeavesThese (gated (V.now volume.old self.old.name))
-            (V.may volume.new self.old.name) }
-        ensures others { V.told → OnlyAt self.old.name (V.now volume.old) (V.now volume.new)
-            (V.may volume.old) (V.may volume.new) }
-        ensures name { self.new.name ≡ self.old.name }
-        ensures still { self.new.settled ≡ self.old.settled }
-        ensures gate { self.new.gate ≡ self.old.gate }
-        ensures count { OnOk result (self.new.staged ≡ self.old.staged + length piece.now) }
-        ensures unmoved { OnErr result (StandsStill self.old self.new) }
-        ensures cause { HasCause V.exact (V.faults volume.old) (V.faults volume.new) result }
-    {
-        self.make_place(volume)?;
-        volume.write_at(self.name, self.gate + 9 + self.staged, piece)?;
-        self.staged += piece.len() as u64;
-        Ok(())
-    }
-
-    // Syncs a file that was found, before the first write to it.
-    fn settle<V: Volume>(&mut self, volume: &mut V) -> Result<(), Failed>
-        requires ready { V.told → IsReady self.old (V.now volume.old) (V.may volume.old) }
-        ensures ready { V.told → OnOk result
-            (IsReady self.new (V.now volume.new) (V.may volume.new)) }
-        ensures done { OnOk result (self.new.settled ≡ true) }
-
-        // A file that was synced since it was found isn't synced again.
-        ensures quiet { IsSynced self.old → volume.new ≡ volume.old }
-        ensures keeps { V.told → Keeps (V.now volume.old) (V.now volume.new)
-            (V.may volume.old) (V.may volume.new) }
-        ensures same { (self.new.name ≡ self.old.name) × (self.new.gate ≡ self.old.gate)
-            × (self.new.staged ≡ self.old.staged) }
-        ensures cause { HasCause V.exact (V.faults volume.old) (V.faults volume.new) result }
-    {
-        if self.settled {
-            return Ok(());
-        }
-        volume.sync(self.name)?;
-        self.settled = true;
-        Ok(())
     }
 
     /// Adds these bytes to what is staged for the next batch. A file that was found is synced
     /// before its first byte is written.
     ///
-    /// The file has the same batches afterwards, where the call fails too. A crash leaves these, or
-    /// what one before the call could leave.
+    /// The file has the same batches afterwards. A crash leaves these, or what one before the call
+    /// could leave. Where it fails, just what was staged before is, and the value can be used on.
     pub fn stage<V: Volume>(&mut self, volume: &mut V, piece: &[u8]) -> Result<(), Failed>
-        requires ready { V.told → IsReady self.old (V.now volume.old) (V.may volume.old) }
-        ensures ready { V.told → OnOk result
-            (IsReady self.new (V.now volume.new) (V.may volume.new)) }
-        ensures staged { V.told → OnOk result (staged_in self.new (V.now volume.new self.old.name)
-            ≡ staged_in self.old (V.now volume.old self.old.name) ++ piece.now) }
-        ensures same { V.told → gated (V.now volume.new self.old.name)
-            ≡ gated (V.now volume.old self.old.name) }
-
-        // A crash now leaves what one before could leave, or these batches.
-        ensures crash { V.told → LeavesFormer (V.may volume.old self.old.name)
-            (gated (V.now volume.old self.old.name))
-            (V.may volume.new self.old.name) }
-        ensures others { V.told → OnlyAt self.old.name (V.now volume.old) (V.now volume.new)
-            (V.may volume.old) (V.may volume.new) }
-        ensures name { self.new.name ≡ self.old.name }
-        ensures gate { self.new.gate ≡ self.old.gate }
-        ensures count { OnOk result (self.new.staged ≡ self.old.staged + length piece.now) }
+        requires ready { IsReadyOn V.Volume self.old volume.old }
+        ensures ready { IsReadyOn V.Volume self.new volume.new }
+        ensures staged { OnOk result (StagesOn V.Volume self.old volume.old piece.now self.new volume.new) }
+        ensures count { OnOk result (staged_bytes_of self.new ≡ staged_bytes_of self.old + length piece.now) }
         ensures synced { OnOk result (IsSynced self.new) }
+        ensures kept { OnErr result (KeepsStagedOn V.Volume self.old volume.old self.new volume.new) }
         ensures still { OnErr result (StandsStill self.old self.new) }
-        ensures cause { HasCause V.exact (V.faults volume.old) (V.faults volume.new) result }
+        ensures name { name_of self.new ≡ name_of self.old }
+        ensures gate { gate_offset_of self.new ≡ gate_offset_of self.old }
+        ensures same { KeepsBatchesOn V.Volume (name_of self.old) volume.old volume.new }
+        ensures crash { CrashLeavesFormerOn V.Volume (name_of self.old) volume.old volume.new }
+        ensures others { ChangesOnly V.Volume (name_of self.old) volume.old volume.new }
+        ensures cause { HasCauseOn V.Volume volume.old volume.new result }
     {
-        self.settle(volume)?;
+        self.sync_found(volume)?;
         self.add_piece(volume, piece)
     }
 
@@ -267,28 +189,20 @@ impl GateFile {
     /// staged.
     ///
     /// Where it answers `Ok`, a crash leaves the batch. Where it fails, a crash leaves the former
-    /// batches, or these and the whole new one.
+    /// batches, or these and the whole new one, and the value is as it was.
     pub fn finish<V: Volume>(&mut self, volume: &mut V) -> Result<(), Failed>
-        requires staged { 0 < self.old.staged }
-        requires ready { V.told → IsReady self.old (V.now volume.old) (V.may volume.old) }
-        ensures ready { V.told → OnOk result
-            (IsReady self.new (V.now volume.new) (V.may volume.new)) }
-        ensures done { V.told → OnOk result (gated (V.now volume.new self.old.name)
-            ≡ with_batch (staged_in self.old (V.now volume.old self.old.name))
-            (gated (V.now volume.old self.old.name))) }
-        ensures settled { V.told → OnOk result
-            (IsSettled self.old.name (V.now volume.new) (V.may volume.new)) }
-
-        // A crash now leaves these batches, or these and the new one.
-        ensures crash { V.told → LeavesOneMore (gated (V.now volume.old self.old.name))
-            (staged_in self.old (V.now volume.old self.old.name)) (V.may volume.new self.old.name) }
-        ensures others { V.told → OnlyAt self.old.name (V.now volume.old) (V.now volume.new)
-            (V.may volume.old) (V.may volume.new) }
-        ensures name { self.new.name ≡ self.old.name }
-        ensures fresh { OnOk result (self.new.staged ≡ 0) }
+        requires staged { 0 < staged_bytes_of self.old }
+        requires ready { IsReadyOn V.Volume self.old volume.old }
+        ensures ready { OnOk result (IsReadyOn V.Volume self.new volume.new) }
+        ensures done { OnOk result (AddsStagedOn V.Volume self.old volume.old volume.new) }
+        ensures settled { SettlesFile V.Volume (name_of self.old) volume.new result }
+        ensures fresh { OnOk result (staged_bytes_of self.new ≡ 0) }
         ensures synced { IsSynced self.old → IsSynced self.new }
-        ensures still { OnErr result (StandsStill self.old self.new) }
-        ensures cause { HasCause V.exact (V.faults volume.old) (V.faults volume.new) result }
+        ensures name { name_of self.new ≡ name_of self.old }
+        ensures unchanged { OnErr result (self.new ≡ self.old) }
+        ensures crash { CrashLeavesOneMoreOn V.Volume self.old volume.old volume.new }
+        ensures others { ChangesOnly V.Volume (name_of self.old) volume.old volume.new }
+        ensures cause { HasCauseOn V.Volume volume.old volume.new result }
     {
         self.close_batch(volume)
     }
@@ -300,63 +214,111 @@ impl GateFile {
     /// batches, these and the whole new one, or what one before the call could leave.
     pub fn append_batch<V: Volume>(&mut self, volume: &mut V, body: &[u8]) -> Result<(), Failed>
         requires body { 0 < length body.now }
-        requires ready { V.told → IsReady self.old (V.now volume.old) (V.may volume.old) }
-        ensures ready { V.told → OnOk result
-            (IsReady self.new (V.now volume.new) (V.may volume.new)) }
-        ensures done { V.told → OnOk result (gated (V.now volume.new self.old.name)
-            ≡ with_batch (staged_in self.old (V.now volume.old self.old.name) ++ body.now)
-            (gated (V.now volume.old self.old.name))) }
-        ensures settled { V.told → OnOk result
-            (IsSettled self.old.name (V.now volume.new) (V.may volume.new)) }
-
-        // A crash now leaves what one before could leave, or these batches, or these and the new
-        // one.
-        ensures crash { V.told → LeavesFormerOrMore (V.may volume.old self.old.name)
-            (gated (V.now volume.old self.old.name))
-            (staged_in self.old (V.now volume.old self.old.name) ++ body.now)
-            (V.may volume.new self.old.name) }
-        ensures others { V.told → OnlyAt self.old.name (V.now volume.old) (V.now volume.new)
-            (V.may volume.old) (V.may volume.new) }
-        ensures name { self.new.name ≡ self.old.name }
-        ensures fresh { OnOk result (self.new.staged ≡ 0) }
+        requires ready { IsReadyOn V.Volume self.old volume.old }
+        ensures ready { OnOk result (IsReadyOn V.Volume self.new volume.new) }
+        ensures done { OnOk result (AddsBatchOn V.Volume self.old body.now volume.old volume.new) }
+        ensures settled { SettlesFile V.Volume (name_of self.old) volume.new result }
+        ensures fresh { OnOk result (staged_bytes_of self.new ≡ 0) }
         ensures synced { OnOk result (IsSynced self.new) }
+        ensures name { name_of self.new ≡ name_of self.old }
 
-        // What was staged before is still staged, and the body too or not.
-        ensures still { OnErr result ((self.new.gate ≡ self.old.gate)
-            × ((self.new.staged ≡ self.old.staged)
-            ⊎ (self.new.staged ≡ self.old.staged + length body.now))) }
-        ensures cause { HasCause V.exact (V.faults volume.old) (V.faults volume.new) result }
+        // After a failure, what was staged before still is, and the body too or not.
+        ensures gate { OnErr result (gate_offset_of self.new ≡ gate_offset_of self.old) }
+        ensures still { OnErr result ((staged_bytes_of self.new ≡ staged_bytes_of self.old)
+            ⊎ (staged_bytes_of self.new ≡ staged_bytes_of self.old + length body.now)) }
+
+        // A value that says after a failure that its file was synced says so rightly.
+        ensures truth { OnErr result (IsSynced self.new
+            → CrashLeavesBatchOn V.Volume self.old body.now volume.old volume.new) }
+        ensures crash { CrashLeavesFormerOrMoreOn V.Volume self.old body.now volume.old volume.new }
+        ensures others { ChangesOnly V.Volume (name_of self.old) volume.old volume.new }
+        ensures cause { HasCauseOn V.Volume volume.old volume.new result }
     {
         self.stage(volume, body)?;
         self.finish(volume)
+    }
+
+    // Syncs a file that was found, before the first write to it.
+    fn sync_found<V: Volume>(&mut self, volume: &mut V) -> Result<(), Failed>
+        requires ready { IsReadyOn V.Volume self.old volume.old }
+        ensures ready { IsReadyOn V.Volume self.new volume.new }
+        ensures done { OnOk result (IsSynced self.new) }
+        ensures unchanged { OnErr result (self.new ≡ self.old) }
+        ensures same { (name_of self.new ≡ name_of self.old)
+            × (gate_offset_of self.new ≡ gate_offset_of self.old)
+            × (staged_bytes_of self.new ≡ staged_bytes_of self.old) }
+
+        // A file that was synced since it was found isn't synced again.
+        ensures quiet { IsSynced self.old → volume.new ≡ volume.old }
+        ensures keeps { KeepsFiles V.Volume volume.old volume.new }
+        ensures cause { HasCauseOn V.Volume volume.old volume.new result }
+    {
+        if self.synced {
+            return Ok(());
+        }
+        volume.sync(self.name)?;
+        self.synced = true;
+        Ok(())
+    }
+
+    // Adds to what is staged, where the file was synced.
+    fn add_piece<V: Volume>(&mut self, volume: &mut V, piece: &[u8]) -> Result<(), Failed>
+        requires laid { IsLaidOn V.Volume self.old volume.old }
+        ensures laid { IsLaidOn V.Volume self.new volume.new }
+        ensures staged { OnOk result (StagesOn V.Volume self.old volume.old piece.now self.new volume.new) }
+        ensures count { OnOk result (staged_bytes_of self.new ≡ staged_bytes_of self.old + length piece.now) }
+        ensures kept { OnErr result (KeepsStagedOn V.Volume self.old volume.old self.new volume.new) }
+        ensures unchanged { OnErr result (self.new ≡ self.old) }
+        ensures name { name_of self.new ≡ name_of self.old }
+        ensures gate { gate_offset_of self.new ≡ gate_offset_of self.old }
+        ensures still { self.new.synced ≡ self.old.synced }
+        ensures same { KeepsBatchesOn V.Volume (name_of self.old) volume.old volume.new }
+        ensures crash { CrashKeepsBatchesOn V.Volume (name_of self.old) volume.old volume.new }
+        ensures others { ChangesOnly V.Volume (name_of self.old) volume.old volume.new }
+        ensures cause { HasCauseOn V.Volume volume.old volume.new result }
+    {
+        self.make_place(volume)?;
+        volume.write_at(self.name, self.gate + 9 + self.staged, piece)?;
+        self.staged += piece.len() as u64;
+        Ok(())
+    }
+
+    // Writes eight zero bytes behind the gate, where nothing is staged: the length's place, so that
+    // the first piece isn't written past the file's end.
+    fn make_place<V: Volume>(&self, volume: &mut V) -> Result<(), Failed>
+        requires laid { IsLaidOn V.Volume self.now volume.old }
+        ensures lies { OnOk result (StagedLiesOn V.Volume self.now volume.old volume.new) }
+        ensures same { KeepsBatchesOn V.Volume (name_of self.now) volume.old volume.new }
+        ensures crash { CrashKeepsBatchesOn V.Volume (name_of self.now) volume.old volume.new }
+        ensures fails { OnErr result (staged_bytes_of self.now ≡ 0) }
+        ensures others { ChangesOnly V.Volume (name_of self.now) volume.old volume.new }
+        ensures cause { HasCauseOn V.Volume volume.old volume.new result }
+    {
+        if self.staged > 0 {
+            return Ok(());
+        }
+        volume.write_at(self.name, self.gate + 1, &[0; 8])
     }
 
     // Makes a batch of what is staged, where the file was synced. The length and the next gate are
     // on the disk before the gate is opened: while a written range isn't synced a crash may leave
     // any bytes in it, so a gate that is written with them could stand open before a false length.
     fn close_batch<V: Volume>(&mut self, volume: &mut V) -> Result<(), Failed>
-        requires staged { 0 < self.old.staged }
-        requires ready { V.told → IsLaid self.old (V.now volume.old) }
-        ensures ready { V.told → OnOk result (IsLaid self.new (V.now volume.new)) }
-        ensures done { V.told → OnOk result (gated (V.now volume.new self.old.name)
-            ≡ with_batch (staged_in self.old (V.now volume.old self.old.name))
-            (gated (V.now volume.old self.old.name))) }
-        ensures settled { V.told → OnOk result
-            (IsSettled self.old.name (V.now volume.new) (V.may volume.new)) }
+        requires staged { 0 < staged_bytes_of self.old }
+        requires laid { IsLaidOn V.Volume self.old volume.old }
+        ensures laid { OnOk result (IsLaidOn V.Volume self.new volume.new) }
+        ensures done { OnOk result (AddsStagedOn V.Volume self.old volume.old volume.new) }
+        ensures settled { SettlesFile V.Volume (name_of self.old) volume.new result }
+        ensures fresh { OnOk result (staged_bytes_of self.new ≡ 0) }
+        ensures unchanged { OnErr result (self.new ≡ self.old) }
+        ensures name { name_of self.new ≡ name_of self.old }
+        ensures still { self.new.synced ≡ self.old.synced }
 
         // Where a crash before could leave these batches alone, one now leaves the former batches,
         // or these and the new one.
-        ensures crash { V.told → LeavesThese (gated (V.now volume.old self.old.name))
-            (V.may volume.old self.old.name)
-            → LeavesOneMore (gated (V.now volume.old self.old.name))
-            (staged_in self.old (V.now volume.old self.old.name)) (V.may volume.new self.old.name) }
-        ensures others { V.told → OnlyAt self.old.name (V.now volume.old) (V.now volume.new)
-            (V.may volume.old) (V.may volume.new) }
-        ensures name { self.new.name ≡ self.old.name }
-        ensures still { self.new.settled ≡ self.old.settled }
-        ensures fresh { OnOk result (self.new.staged ≡ 0) }
-        ensures unmoved { OnErr result (StandsStill self.old self.new) }
-        ensures cause { HasCause V.exact (V.faults volume.old) (V.faults volume.new) result }
+        ensures crash { CrashAddsStagedOn V.Volume self.old volume.old volume.new }
+        ensures others { ChangesOnly V.Volume (name_of self.old) volume.old volume.new }
+        ensures cause { HasCauseOn V.Volume volume.old volume.new result }
     {
         let end = self.gate + 9 + self.staged;
         volume.write_at(self.name, self.gate + 1, &self.staged.to_be_bytes())?;

@@ -8,9 +8,9 @@ use Rattle.tt_disk.specs.Laws.{end_written}
 use Rattle.tt_cells.specs.declared.PageCopy.{PageCopy}
 use Rattle.tt_cells.specs.Limits.{PAGE_BYTES}
 use Rattle.tt_cells.specs.Copies.{AreWhole, joined, pages_of}
-use Rattle.tt_image.specs.Image.{page_start}
+use Rattle.tt_image.specs.Head.{page_start}
 use Rattle.tt_image.specs.Laws.{size_behind}
-use Rattle.tt_image.specs.Writing.{AreFrom, BeginWithin, with_pages}
+use Rattle.tt_image.specs.Pages.{AreFrom, BeginWithin, with_pages}
 
 -- ---- which copies are a run
 

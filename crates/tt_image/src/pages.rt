@@ -4,13 +4,16 @@
 //! synced here: `finish_image` syncs them before it opens the gate. Copies of pages that follow each
 //! other lie side by side in memory as in the file, so each run of them is one call on the volume.
 ghost use Rattle.std.specs.Prelude.{◌≡◌, ◌≢◌, ◌<◌, ◌≤◌, ◌+◌, ◌-◌, ◌++◌, length, take, drop, replicate, slice_index, IsSome, OnOk};
-ghost use Rattle.tt_disk.specs.Causes.{HasCause};
+ghost use Rattle.tt_disk.specs.Calls.{KeepsFiles, ChangesOnly, HasFile, HasOffset};
+ghost use Rattle.tt_image.specs.Calls.{MakesPagesOn, ReadsPaddedOn, HasPageStart, CrashLeavesShutOn};
+ghost use Rattle.tt_disk.specs.Faults.{HasCause};
 ghost use Rattle.tt_disk.specs.Volume.{Keeps, bytes_of, size_of};
-ghost use Rattle.tt_disk.specs.Laws.{OnlyAt};
+ghost use Rattle.tt_disk.specs.Volume.{OnlyAt};
 ghost use Rattle.tt_cells.specs.Limits.{PAGE_BYTES};
 ghost use Rattle.tt_cells.specs.Copies.{AreWhole, pages_of};
-ghost use Rattle.tt_image.specs.Image.{padded, page_of, page_start};
-ghost use Rattle.tt_image.specs.Writing.{AreFrom, BeginWithin, with_pages};
+ghost use Rattle.tt_image.specs.Head.{page_start};
+ghost use Rattle.tt_image.specs.Pages.{padded, page_of, page_at};
+ghost use Rattle.tt_image.specs.Pages.{AreFrom, BeginWithin, with_pages};
 ghost use Rattle.tt_image.specs.Crash.{LeavesShut};
 
 use crate::head::HEAD_BYTES;
@@ -30,11 +33,11 @@ pub fn write_pages<V: Volume>(
     count: u32,
 ) -> Result<(), Failed>
     requires count { count ≤ length copies.now.copies }
-    requires shut { V.told → LeavesShut (V.may volume.old name) }
+    requires shut { CrashLeavesShutOn V.Volume name volume.old }
     requires within { V.told → BeginWithin (size_of (V.now volume.old name)) (take count copies.now.copies) }
-    ensures written { V.told → OnOk result (V.now volume.new name ≡ with_pages (take count copies.now.copies) (V.now volume.old name)) }
-    ensures shut { V.told → LeavesShut (V.may volume.new name) }
-    ensures others { V.told → OnlyAt name (V.now volume.old) (V.now volume.new) (V.may volume.old) (V.may volume.new) }
+    ensures written { MakesPagesOn V.Volume name volume.old volume.new (take count copies.now.copies) result }
+    ensures shut { CrashLeavesShutOn V.Volume name volume.new }
+    ensures others { ChangesOnly V.Volume name volume.old volume.new }
     ensures cause { HasCause V.exact (V.faults volume.old) (V.faults volume.new) result }
 {
     // That each copy has a page's bytes is said where they are counted.
@@ -60,11 +63,11 @@ pub fn read_page<V: Volume>(
     into: &mut PageCopy,
 ) -> Result<(), Failed>
     requires bytes { length into.old.bytes ≡ PAGE_BYTES }
-    requires within { V.told → page_start page ≤ size_of (V.now volume.old name) }
+    requires within { HasPageStart V.Volume name page volume.old }
     ensures page { V.told → OnOk result (into.new.bytes ≡ page_of page (V.now volume.old name)) }
     ensures number { OnOk result (into.new.page ≡ page) }
     ensures bytes { length into.new.bytes ≡ PAGE_BYTES }
-    ensures keeps { V.told → Keeps (V.now volume.old) (V.now volume.new) (V.may volume.old) (V.may volume.new) }
+    ensures keeps { KeepsFiles V.Volume volume.old volume.new }
     ensures cause { HasCause V.exact (V.faults volume.old) (V.faults volume.new) result }
 {
     read_padded(volume, name, start_of(page), into.bytes.as_mut_slice())?;
@@ -79,8 +82,8 @@ fn run_length(copies: &PageCopies, from: u32, end: u32) -> u32
     requires end { end ≤ length copies.now.copies }
     ensures some { 1 ≤ result }
     ensures within { from + result ≤ end }
-    ensures run { AreFrom (slice_index (pages_of copies.now.copies) from) (take result (drop from copies.now.copies)) }
-    ensures longest { from + result < end → slice_index (pages_of copies.now.copies) (from + result) ≢ slice_index (pages_of copies.now.copies) from + result }
+    ensures run { AreFrom (page_at from copies.now.copies) (take result (drop from copies.now.copies)) }
+    ensures longest { from + result < end → page_at (from + result) copies.now.copies ≢ page_at from copies.now.copies + result }
 {
     let first = copies.page(from);
     for count in 1..end - from {
@@ -102,12 +105,12 @@ fn write_run<V: Volume>(
     requires some { 1 ≤ count }
     requires count { from + count ≤ length copies.now.copies }
     requires whole { AreWhole copies.now.copies }
-    requires run { AreFrom (slice_index (pages_of copies.now.copies) from) (take count (drop from copies.now.copies)) }
-    requires shut { V.told → LeavesShut (V.may volume.old name) }
-    requires within { V.told → page_start (slice_index (pages_of copies.now.copies) from) ≤ size_of (V.now volume.old name) }
-    ensures written { V.told → OnOk result (V.now volume.new name ≡ with_pages (take count (drop from copies.now.copies)) (V.now volume.old name)) }
-    ensures shut { V.told → LeavesShut (V.may volume.new name) }
-    ensures others { V.told → OnlyAt name (V.now volume.old) (V.now volume.new) (V.may volume.old) (V.may volume.new) }
+    requires run { AreFrom (page_at from copies.now.copies) (take count (drop from copies.now.copies)) }
+    requires shut { CrashLeavesShutOn V.Volume name volume.old }
+    requires within { HasPageStart V.Volume name (page_at from copies.now.copies) volume.old }
+    ensures written { MakesPagesOn V.Volume name volume.old volume.new (take count (drop from copies.now.copies)) result }
+    ensures shut { CrashLeavesShutOn V.Volume name volume.new }
+    ensures others { ChangesOnly V.Volume name volume.old volume.new }
     ensures cause { HasCause V.exact (V.faults volume.old) (V.faults volume.new) result }
 {
     volume.write_at(
@@ -131,10 +134,10 @@ fn read_padded<V: Volume>(
     at: u64,
     bytes: &mut [u8],
 ) -> Result<(), Failed>
-    requires there { V.told → IsSome (V.now volume.old name) }
-    requires within { V.told → at ≤ size_of (V.now volume.old name) }
-    ensures bytes { V.told → OnOk result (bytes.new ≡ padded (length bytes.old) (drop at (bytes_of (V.now volume.old name)))) }
-    ensures keeps { V.told → Keeps (V.now volume.old) (V.now volume.new) (V.may volume.old) (V.may volume.new) }
+    requires there { HasFile V.Volume name volume.old }
+    requires within { HasOffset V.Volume name at volume.old }
+    ensures bytes { ReadsPaddedOn V.Volume name at volume.old bytes.old bytes.new result }
+    ensures keeps { KeepsFiles V.Volume volume.old volume.new }
     ensures cause { HasCause V.exact (V.faults volume.old) (V.faults volume.new) result }
 {
     let given = volume.read_at(name, at, bytes)?;

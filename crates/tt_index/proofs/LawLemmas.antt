@@ -10,10 +10,10 @@ use Rattle.std.specs.declared.cmp.Ordering.TheVariants.{Less, Equal, Greater}
 use Rattle.std.proofs.lemmas.Bool.{eqb-true, true≢false}
 use Rattle.std.proofs.lemmas.Cmp.{tied_itself, nat_cmp_total}
 use Rattle.std.proofs.lemmas.Map.Entries.{lookup-filter-keys}
-use Rattle.tt_value.specs.Orders.{row_cmp}
+use Rattle.tt_value.specs.Order.{row_cmp}
 use Rattle.tt_value.specs.OrderLaws.{row_total}
 use Rattle.tt_value.specs.declared.value.Row.{Row}
-use Rattle.tt_index.specs.Entries.{without, values_at, with_values, changed}
+use Rattle.tt_index.specs.Rows.{without, values_at, with_values, changed}
 use Rattle.tt_index.specs.Indexes.{Entries, Numbered, entries_of, places_at, places_in, has_pair, with_place, without_place, with_pair, without_pair, without_index, AreAmong}
 use Rattle.tt_index.specs.Laws.{is_pair, UnusedStayEmpty, IndexesAreSeen, PairsAreSeen, PlacesAreSeen}
 use Rattle.tt_index.proofs.PlaceLists.{at_place, same_place}

@@ -13,7 +13,7 @@ use Rattle.std.proofs.lemmas.List.Folds.{list_any-append}
 use Rattle.std.proofs.lemmas.Map.{lookup-none}
 use Rattle.std.proofs.lemmas.Map.Entries.{none_past_head}
 use Rattle.std.proofs.lemmas.Map.Keys.{sorted_tail, IsDistinct-from_sorted}
-use Rattle.tt_value.specs.Orders.{row_cmp}
+use Rattle.tt_value.specs.Order.{row_cmp}
 use Rattle.tt_value.specs.OrderLaws.{row_total}
 use Rattle.tt_value.specs.declared.value.Row.{Row}
 use Rattle.tt_index.specs.Indexes.{Entries, places_at, places_between}

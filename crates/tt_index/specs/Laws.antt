@@ -7,7 +7,7 @@ use Rattle.std.specs.BTreeMap.{is_at}
 use Rattle.std.specs.BTreeMap.Range.{range_contains}
 use Rattle.std.specs.Ordering.{nat_cmp, is_eq}
 use Rattle.std.specs.declared.ops.Bound.{Bound}
-use Rattle.tt_value.specs.Orders.{row_cmp}
+use Rattle.tt_value.specs.Order.{row_cmp}
 use Rattle.tt_value.specs.declared.value.Row.{Row}
 use Rattle.tt_index.specs.Indexes.{Entries, Numbered, entries_of, places_at, places_between, places_in, has_pair, with_place, without_place, with_pair, without_pair, without_index, AreAmong}
 

@@ -2,10 +2,10 @@
 ghost use Rattle.std.specs.Prelude.{◌≡◌, [], ◌∷◌, OnOk, OnErr, unwrap_or};
 ghost use Rattle.std.specs.BTreeMap.Range.{is_from_start, is_past_end, range_contains};
 ghost use Rattle.std.specs.Cmp.Lexicographic.{slice_cmp};
-ghost use Rattle.tt_value.specs.Orders.{value_cmp, row_cmp};
+ghost use Rattle.tt_value.specs.Order.{value_cmp, row_cmp};
 ghost use Rattle.tt_value.specs.declared.value.Value.TheVariants.{Null};
 ghost use Rattle.tt_index.specs.Indexes.{places_between, with_place, without_place};
-ghost use Rattle.tt_index.specs.Whole.{null_row, is_null_row, null_entries, joined_by_null, some_places};
+ghost use Rattle.tt_index.specs.Nulls.{null_row, is_null_row, null_entries, joined_by_null, some_places};
 
 use crate::place_set::{KeyPlaces, PlaceSet};
 use std::alloc::{AllocError, Global};

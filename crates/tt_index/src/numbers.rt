@@ -7,10 +7,12 @@ ghost use Rattle.std.specs.List.Sorted.{IsStrictlySortedBy};
 ghost use Rattle.std.specs.Map.{keys_of, lookup};
 ghost use Rattle.std.specs.Option.{option_copied};
 ghost use Rattle.std.specs.Ordering.{nat_cmp, int_cmp};
-ghost use Rattle.tt_value.specs.Orders.{row_cmp};
-ghost use Rattle.tt_index.specs.Entries.{without, values_at, changed, SameBut};
+ghost use Rattle.tt_value.specs.Order.{row_cmp};
+ghost use Rattle.tt_index.specs.Rows.{without, values_at, changed, SameBut};
 ghost use Rattle.tt_index.specs.Indexes.{places_at, places_between, with_place, without_place};
-ghost use Rattle.tt_index.specs.Whole.{whole_row, null_row, as_rows, with_nulls};
+ghost use Rattle.tt_index.specs.Nulls.{null_row};
+ghost use Rattle.tt_index.specs.Numbers.{as_rows, with_nulls};
+ghost use Rattle.tt_index.specs.Whole.{whole_row};
 
 use crate::nulls::{add_null, copy_nulls, drop_null, is_null, nulls_between};
 use crate::place_set::PlaceSet;
@@ -31,7 +33,7 @@ pub struct Numbers {
 
 impl Model for Numbers {
     ghost use Rattle.tt_index.specs.Indexes.{Entries};
-    ghost use Rattle.tt_index.specs.Whole.{with_nulls};
+    ghost use Rattle.tt_index.specs.Numbers.{with_nulls};
 
     ghost Value = { Entries };
 

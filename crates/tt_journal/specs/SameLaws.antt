@@ -6,7 +6,7 @@ use Rattle.tt_model.specs.State.{State}
 use Rattle.tt_model.specs.Works.{SameLog}
 use Rattle.tt_journal.specs.LogTrail.{HasEnds, HasTrail, IsQuiet, LeavesPrefix}
 use Rattle.tt_journal.specs.Onward.{IsOnward}
-use Rattle.tt_journal.specs.Writes.{Outcomes}
+use Rattle.tt_journal.specs.Journal.{Outcomes}
 
 -- one state's log, and what another keeps beside it
 abbrev laid : State → State → State

@@ -1,12 +1,15 @@
-// Entries appended to the log, and their force.
+//! Entries appended to the log, and their force, by one call. It takes no memory; where a call of the volume fails it makes no other, and a
+//! crash leaves a prefix of the entries.
 ghost use Rattle.std.specs.Prelude.{◌≡◌, [], ◌∷◌, ℕ, List, map, true, OnOk};
-ghost use Rattle.tt_disk.specs.Causes.{HasCause};
-ghost use Rattle.tt_record.specs.Entries.{length_of};
-ghost use Rattle.tt_log.specs.Logs.{IsOpen, write_of};
+ghost use Rattle.tt_journal.specs.Calls.{LeadsOn};
+ghost use Rattle.tt_log.specs.Calls.{IsOpenOn};
+ghost use Rattle.tt_disk.specs.Faults.{HasCause};
+ghost use Rattle.tt_record.specs.Entry.{length_of};
+ghost use Rattle.tt_log.specs.Log.{IsOpen, write_position_of, file_size_of};
 ghost use Rattle.tt_model.specs.Entries.{IsPlain};
 ghost use Rattle.tt_model.specs.State.{all_forced, lengths_fit, with_entry};
 ghost use Rattle.tt_model.specs.Works.{performed, with_entries, Work};
-ghost use Rattle.tt_journal.specs.Writes.{CanFollow, Performs};
+ghost use Rattle.tt_journal.specs.Journal.{CanFollow, Performs, LeavesRoom, written};
 
 use crate::entries::Entries;
 use tt_disk::{Failed, Volume};
@@ -16,11 +19,10 @@ use tt_record::Entry;
 // Appends an entry.
 fn add<V: Volume>(log: &mut Log, volume: &mut V, entry: Entry) -> Result<(), Failed>
     requires entry { IsPlain entry }
-    requires place { lengths_fit log.old.file_size (write_of log.old) (length_of entry ∷ []) ≡ true }
-    requires open { V.told → IsOpen log.old (V.now volume.old) (V.may volume.old) }
-    ensures performed { V.told → Performs V.now V.may log.old volume.old log.new volume.new (with_entry entry) result }
-    ensures rest { OnOk result ((ns : List ℕ) → lengths_fit log.old.file_size (write_of log.old) (length_of entry ∷ ns) ≡ true
-        → lengths_fit log.new.file_size (write_of log.new) ns ≡ true) }
+    requires place { lengths_fit (file_size_of log.old) (write_position_of log.old) (length_of entry ∷ []) ≡ true }
+    requires open { IsOpenOn V.Volume log.old volume.old }
+    ensures performed { LeadsOn V.Volume log.old volume.old log.new volume.new (with_entry entry) result }
+    ensures rest { OnOk result (LeavesRoom log.old (length_of entry) log.new) }
     ensures cause { HasCause V.exact (V.faults volume.old) (V.faults volume.new) result }
 {
     match log.append(volume, &entry) {
@@ -31,8 +33,8 @@ fn add<V: Volume>(log: &mut Log, volume: &mut V, entry: Entry) -> Result<(), Fai
 
 // Forces the log.
 fn force_all<V: Volume>(log: &mut Log, volume: &mut V) -> Result<(), Failed>
-    requires open { V.told → IsOpen log.old (V.now volume.old) (V.may volume.old) }
-    ensures performed { V.told → Performs V.now V.may log.old volume.old log.new volume.new all_forced result }
+    requires open { IsOpenOn V.Volume log.old volume.old }
+    ensures performed { LeadsOn V.Volume log.old volume.old log.new volume.new all_forced result }
     ensures cause { HasCause V.exact (V.faults volume.old) (V.faults volume.new) result }
 {
     match log.force(volume) {
@@ -47,9 +49,9 @@ fn add_all<V: Volume, E: Entries + Drop>(
     volume: &mut V,
     entries: E,
 ) -> Result<(), Failed>
-    requires follow { CanFollow log.old.file_size (write_of log.old) (E.left entries) }
-    requires open { V.told → IsOpen log.old (V.now volume.old) (V.may volume.old) }
-    ensures performed { V.told → Performs V.now V.may log.old volume.old log.new volume.new (with_entries (E.left entries)) result }
+    requires follow { CanFollow (file_size_of log.old) (write_position_of log.old) (E.left entries) }
+    requires open { IsOpenOn V.Volume log.old volume.old }
+    ensures performed { LeadsOn V.Volume log.old volume.old log.new volume.new (with_entries (E.left entries)) result }
     ensures cause { HasCause V.exact (V.faults volume.old) (V.faults volume.new) result }
 {
     let mut entries = entries;
@@ -71,10 +73,10 @@ pub fn write<V: Volume, E: Entries + Drop>(
     entries: E,
     force: bool,
 ) -> Result<(), Failed>
-    requires follow { CanFollow log.old.file_size (write_of log.old) (E.left entries) }
-    requires open { V.told → IsOpen log.old (V.now volume.old) (V.may volume.old) }
-    ensures performed { V.told → Performs V.now V.may log.old volume.old log.new volume.new
-        (performed (record { entries = E.left entries; force = force })) result }
+    requires follow { CanFollow (file_size_of log.old) (write_position_of log.old) (E.left entries) }
+    requires open { IsOpenOn V.Volume log.old volume.old }
+    ensures performed { LeadsOn V.Volume log.old volume.old log.new volume.new
+        (written (E.left entries) force) result }
     ensures cause { HasCause V.exact (V.faults volume.old) (V.faults volume.new) result }
 {
     match add_all(log, volume, entries) {

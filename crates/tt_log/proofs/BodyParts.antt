@@ -3,13 +3,13 @@ use Rattle.std.proofs.Common.{◌≡◌, ◌≤◌, ◌<◌, ◌+◌, ◌⊎◌,
 use Rattle.std.proofs.lemmas.List.{append-nil, drop-drop}
 use Rattle.tt_record.specs.declared.entry.Entry.{Entry}
 use Rattle.tt_record.specs.declared.entry.Entry.TheVariants.{Change, Commit, Abort, Mark, Switch}
-use Rattle.tt_record.specs.Reading.{entries_of, entry_at, behind}
-use Rattle.tt_record.specs.Entries.{length_of}
+use Rattle.tt_record.specs.Read.{entries_of, entry_at, behind}
+use Rattle.tt_record.specs.Entry.{length_of}
 use Rattle.tt_log.specs.Lengths.{total}
-use Rattle.tt_record.specs.BodyLaws.{entries_step, entries_bad, entries_end, entries_some}
-use Rattle.tt_log.specs.declared.body.Body.TheVariants.{Entries, Turn, Bad}
-use Rattle.tt_log.specs.Walk.{is_switch, no_switch, turns, turns_to}
-use Rattle.tt_log.specs.Bodies.{body_in, joined, SoFar, switch_of}
+use Rattle.tt_record.specs.BodyLaws.{entries_step, entries_end, entries_some}
+use Rattle.tt_log.specs.declared.body.Body.TheVariants.{Entries, NextFile, Bad}
+use Rattle.tt_log.specs.Walk.{is_switch, no_switch, switches, switches_to}
+use Rattle.tt_log.specs.Body.{body_in, joined, SoFar, switch_of}
 use Rattle.tt_log.proofs.Sums.{total_more}
 
 joined_none : (o : Option (List Entry)) → o ≡ joined [] o
@@ -45,10 +45,7 @@ next_one bytes at n e s first long some plain = record {
 pub all_read : (number : ℕ) (bytes : List ℕ) (at : ℕ) → SoFar bytes at → at ≡ length bytes → body_in number (entries_of bytes) ≡ Entries (length bytes)
 all_read number bytes at s is =
     let whole : entries_of bytes ≡ Some s.es = s.is ∙ ap (joined s.es) (entries_end (drop at bytes) (omega (arith, length-drop at bytes))) ∙ ap (λ (l : List Entry). Some l) (append-nil s.es) in
-    ap (body_in number) whole ∙ ap (λ (b : Bool). if b then Entries (total s.es) else (if turns number s.es then Turn else Bad)) s.plain ∙ ap (λ (k : ℕ). Entries k) (s.long ∙ is)
-
-pub no_entry : (number : ℕ) (bytes : List ℕ) (at : ℕ) → SoFar bytes at → at < length bytes → entry_at (drop at bytes) ≡ None → body_in number (entries_of bytes) ≡ Bad
-no_entry number bytes at s below first = ap (body_in number) (s.is ∙ ap (joined s.es) (entries_bad (drop at bytes) (omega (arith, length-drop at bytes)) first))
+    ap (body_in number) whole ∙ ap (λ (b : Bool). if b then Entries (total s.es) else (if switches number s.es then NextFile else Bad)) s.plain ∙ ap (λ (k : ℕ). Entries k) (s.long ∙ is)
 
 not_plain : (es fs : List Entry) (e : Entry) → is_switch e ≡ true → no_switch (es ++ e ∷ fs) ≡ false
 not_plain [] fs e one = ap (λ (b : Bool). if b then false else no_switch fs) one
@@ -58,14 +55,14 @@ not_plain (f ∷ es) fs e one = by_test (is_switch f) (not_plain es fs e one)
     by_test true again = refl
     by_test false again = again
 
-switch_body : (number : ℕ) (es fs : List Entry) (e : Entry) → is_switch e ≡ true → body_in number (Some (es ++ e ∷ fs)) ≡ (if turns number (es ++ e ∷ fs) then Turn else Bad)
-switch_body number es fs e one = ap (λ (b : Bool). if b then Entries (total (es ++ e ∷ fs)) else (if turns number (es ++ e ∷ fs) then Turn else Bad)) (not_plain es fs e one)
+switch_body : (number : ℕ) (es fs : List Entry) (e : Entry) → is_switch e ≡ true → body_in number (Some (es ++ e ∷ fs)) ≡ (if switches number (es ++ e ∷ fs) then NextFile else Bad)
+switch_body number es fs e one = ap (λ (b : Bool). if b then Entries (total (es ++ e ∷ fs)) else (if switches number (es ++ e ∷ fs) then NextFile else Bad)) (not_plain es fs e one)
 
-no_turn : (number : ℕ) (es fs : List Entry) (e : Entry) → 0 < length es + length fs → turns number (es ++ e ∷ fs) ≡ false
-no_turn number [] [] e some = absurd (omega arith)
-no_turn number [] (f ∷ fs) e some = refl
-no_turn number (a ∷ []) fs e some = refl
-no_turn number (a ∷ b ∷ es) fs e some = refl
+no_next_file : (number : ℕ) (es fs : List Entry) (e : Entry) → 0 < length es + length fs → switches number (es ++ e ∷ fs) ≡ false
+no_next_file number [] [] e some = absurd (omega arith)
+no_next_file number [] (f ∷ fs) e some = refl
+no_next_file number (a ∷ []) fs e some = refl
+no_next_file number (a ∷ b ∷ es) fs e some = refl
 
 -- a Switch that doesn't stand alone
 pub not_alone : (number : ℕ) (bytes : List ℕ) (at n : ℕ) (e : Entry) → SoFar bytes at → entry_at (drop at bytes) ≡ Some (e, n) → is_switch e ≡ true → (0 < at) ⊎ (at + n < length bytes) → body_in number (entries_of bytes) ≡ Bad
@@ -78,12 +75,12 @@ not_alone number bytes at n e s first one more =
 
     by_rest : (o : Option (List Entry)) → entries_of (drop n (drop at bytes)) ≡ o → body_in number (joined s.es (behind e o)) ≡ Bad
     by_rest None is = refl
-    by_rest (Some fs) is = switch_body number s.es fs e one ∙ ap (λ (b : Bool). if b then Turn else Bad) (no_turn number s.es fs e (long fs is more))
+    by_rest (Some fs) is = switch_body number s.es fs e one ∙ ap (λ (b : Bool). if b then NextFile else Bad) (no_next_file number s.es fs e (long fs is more))
 
-pub alone : (number : ℕ) (bytes : List ℕ) (n : ℕ) (e : Entry) → SoFar bytes 0 → entry_at (drop 0 bytes) ≡ Some (e, n) → is_switch e ≡ true → length bytes ≤ n → body_in number (entries_of bytes) ≡ (if turns_to number e then Turn else Bad)
+pub alone : (number : ℕ) (bytes : List ℕ) (n : ℕ) (e : Entry) → SoFar bytes 0 → entry_at (drop 0 bytes) ≡ Some (e, n) → is_switch e ≡ true → length bytes ≤ n → body_in number (entries_of bytes) ≡ (if switches_to number e then NextFile else Bad)
 alone number bytes n e s first one le =
     let whole : entries_of bytes ≡ Some (s.es ++ e ∷ []) = s.is ∙ ap (joined s.es) (entries_step (drop 0 bytes) e n first ∙ ap (behind e) (entries_end (drop n bytes) (omega (arith, length-drop n bytes)))) in
-    ap (body_in number) whole ∙ switch_body number s.es [] e one ∙ ap (λ (es : List Entry). if turns number (es ++ e ∷ []) then Turn else Bad) (s.none refl)
+    ap (body_in number) whole ∙ switch_body number s.es [] e one ∙ ap (λ (es : List Entry). if switches number (es ++ e ∷ []) then NextFile else Bad) (s.none refl)
 
 pub not_switch : (e : Entry) → switch_of e ≡ None → is_switch e ≡ false
 not_switch (Change transaction place before after) none = refl

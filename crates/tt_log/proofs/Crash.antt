@@ -4,14 +4,15 @@ use Rattle.std.proofs.lemmas.Bool.{eq-eqb, eqb-true}
 use Rattle.tt_disk.specs.declared.volume.Name.{Name}
 use Rattle.tt_disk.specs.declared.volume.Name.TheVariants.{Ds, Log, SetImage, SetLog}
 use Rattle.tt_gate.specs.Gate.{gated}
-use Rattle.tt_gate.specs.Standing.{with_batch}
+use Rattle.tt_gate.specs.GateFile.{with_batch}
 use Rattle.tt_record.specs.declared.entry.Entry.{Entry}
-use Rattle.tt_record.specs.Reading.{entries_of}
+use Rattle.tt_record.specs.Read.{entries_of}
 use Rattle.tt_log.specs.Lengths.{total}
-use Rattle.tt_log.specs.Walk.{Files, Found, file_most, log_of, with_more, turned, no_switch, turns, log_header}
-use Rattle.tt_log.specs.Logs.{MayLeave, LeavesThis}
-use Rattle.tt_log.proofs.FileParts.{file_push, file_turn, file_same, file_made}
-use Rattle.tt_log.proofs.Walks.{grown, turns_over, alike}
+use Rattle.tt_log.specs.Walk.{Files, LogContents, log_of, with_more, switched, no_switch, switches, log_header}
+use Rattle.tt_log.specs.Limits.{FILE_MOST}
+use Rattle.tt_log.specs.Log.{MayLeave, CrashLeavesLog}
+use Rattle.tt_log.proofs.FileParts.{file_push, file_switch, file_same, file_made}
+use Rattle.tt_log.proofs.Walks.{grown, switches_over, alike}
 
 abbrev pub Outcomes : Type 1
 Outcomes = Name → Option (List ℕ) → Type 0
@@ -56,34 +57,34 @@ all_left m files may here others (SetImage k) = others (SetImage k) (λ same. cc
 all_left m files may here others (SetLog k) = others (SetLog k) (λ same. cc)
 
 -- one more batch in the last file
-pub more_in : (first m : ℕ) (body : List ℕ) (fs : List Entry) (files others : Files) (found : Found) → log_of first files ≡ Ok found → found.end.file ≡ m → ((j : ℕ) → ¬ (j ≡ m) → others (Log j) ≡ files (Log j))
-    → gated (others (Log m)) ≡ with_batch body (gated (files (Log m))) → entries_of body ≡ Some fs → no_switch fs ≡ true → found.end.offset + total fs ≤ file_most → log_of first others ≡ with_more fs (Ok found)
+pub more_in : (first m : ℕ) (body : List ℕ) (fs : List Entry) (files others : Files) (found : LogContents) → log_of first files ≡ Ok found → found.end.file ≡ m → ((j : ℕ) → ¬ (j ≡ m) → others (Log j) ≡ files (Log j))
+    → gated (others (Log m)) ≡ with_batch body (gated (files (Log m))) → entries_of body ≡ Some fs → no_switch fs ≡ true → found.end.offset + total fs ≤ FILE_MOST → log_of first others ≡ with_more fs (Ok found)
 unfolding log_of
 more_in first m body fs files others found is at same more entries plain room =
     grown (1000000 - first) first m files others found fs is at same (λ es long read. file_push m (files (Log m)) (others (Log m)) body es fs read more entries plain (omega (arith, long, room)))
 
-pub same_in : (first m : ℕ) (files others : Files) (found : Found) → log_of first files ≡ Ok found → found.end.file ≡ m → ((j : ℕ) → j < m → others (Log j) ≡ files (Log j))
+pub same_in : (first m : ℕ) (files others : Files) (found : LogContents) → log_of first files ≡ Ok found → found.end.file ≡ m → ((j : ℕ) → j < m → others (Log j) ≡ files (Log j))
     → gated (others (Log m)) ≡ gated (files (Log m)) → log_of first others ≡ Ok found
 unfolding log_of
 same_in first m files others found is at same read =
     alike (1000000 - first) first m files others found is at same (λ es there. file_same m (files (Log m)) (others (Log m)) es read there)
 
-pub turned_in : (first m : ℕ) (body : List ℕ) (fs : List Entry) (files others : Files) (found : Found) → log_of first files ≡ Ok found → found.end.file ≡ m → first + 1 ≤ 1000000 → m + 2 ≤ 1000000 → ((j : ℕ) → j < m → others (Log j) ≡ files (Log j))
-    → gated (others (Log m)) ≡ with_batch body (gated (files (Log m))) → entries_of body ≡ Some fs → no_switch fs ≡ false → turns m fs ≡ true → gated (others (Log (m + 1))) ≡ Ok (log_header (m + 1), [])
-    → log_of first others ≡ turned (Ok found)
+pub switched_in : (first m : ℕ) (body : List ℕ) (fs : List Entry) (files others : Files) (found : LogContents) → log_of first files ≡ Ok found → found.end.file ≡ m → first + 1 ≤ 1000000 → m + 2 ≤ 1000000 → ((j : ℕ) → j < m → others (Log j) ≡ files (Log j))
+    → gated (others (Log m)) ≡ with_batch body (gated (files (Log m))) → entries_of body ≡ Some fs → no_switch fs ≡ false → switches m fs ≡ true → gated (others (Log (m + 1))) ≡ Ok (log_header (m + 1), [])
+    → log_of first others ≡ switched (Ok found)
 unfolding log_of
-turned_in first m body fs files others found is at low room same more entries plain turn next =
-    turns_over (1000000 - first) first m files others found is at (omega (arith, low, room)) same
-    (λ es read. file_turn m (files (Log m)) (others (Log m)) body es fs read more entries plain turn) (file_made (m + 1) (others (Log (m + 1))) next)
+switched_in first m body fs files others found is at low room same more entries plain switch next =
+    switches_over (1000000 - first) first m files others found is at (omega (arith, low, room)) same
+    (λ es read. file_switch m (files (Log m)) (others (Log m)) body es fs read more entries plain switch) (file_made (m + 1) (others (Log (m + 1))) next)
 
 -- what is left around a batch of entries
 pub record Around (first m base : ℕ) (old : Files) (may : Outcomes) : Type 1 where
-  pub found : Found
+  pub found : LogContents
   pub is : log_of first old ≡ Ok found
   pub at : found.end.file ≡ m
   pub offset : found.end.offset ≡ base
   pub reads : (n : Name) → may n (old n)
-  pub kept : LeavesThis first (log_of first old) may
+  pub kept : CrashLeavesLog first (log_of first old) may
 
 -- the map with the last file as it was
 pub was : (first m base : ℕ) (old files : Files) (may : Outcomes) (a : Around first m base old may) → ((n : Name) → ¬ (n ≡ Log m) → may n (files n)) → log_of first (put_log m (old (Log m)) files) ≡ Ok a.found
@@ -96,16 +97,16 @@ left_same first m base old files may a others same =
     (λ j below. sym (put_apart m j (old (Log m)) files (λ eq. omega (arith, below, eq)))) (same ∙ ap gated (sym (put_here m (old (Log m)) files))) ∙ sym a.is
 
 pub left_more : (first m base : ℕ) (body : List ℕ) (fs : List Entry) (old files : Files) (may : Outcomes) → Around first m base old may → ((n : Name) → ¬ (n ≡ Log m) → may n (files n)) → gated (files (Log m)) ≡ with_batch body (gated (old (Log m)))
-    → entries_of body ≡ Some fs → no_switch fs ≡ true → base + total fs ≤ file_most → log_of first files ≡ with_more fs (log_of first old)
+    → entries_of body ≡ Some fs → no_switch fs ≡ true → base + total fs ≤ FILE_MOST → log_of first files ≡ with_more fs (log_of first old)
 left_more first m base body fs old files may a others more entries plain room =
     more_in first m body fs (put_log m (old (Log m)) files) files a.found (was first m base old files may a others) a.at
     (λ j apart. sym (put_apart m j (old (Log m)) files apart)) (more ∙ ap (λ o. with_batch body (gated o)) (sym (put_here m (old (Log m)) files))) entries plain (omega (arith, room, a.offset))
     ∙ ap (with_more fs) (sym a.is)
 
-pub left_turned : (first m base : ℕ) (body : List ℕ) (fs : List Entry) (old files : Files) (may : Outcomes) → Around first m base old may → ((n : Name) → ¬ (n ≡ Log m) → may n (files n)) → gated (files (Log m)) ≡ with_batch body (gated (old (Log m)))
-    → entries_of body ≡ Some fs → no_switch fs ≡ false → turns m fs ≡ true → first + 1 ≤ 1000000 → m + 2 ≤ 1000000 → gated (files (Log (m + 1))) ≡ Ok (log_header (m + 1), [])
-    → log_of first files ≡ turned (log_of first old)
-left_turned first m base body fs old files may a others more entries plain turn low room next =
-    turned_in first m body fs (put_log m (old (Log m)) files) files a.found (was first m base old files may a others) a.at low room
-    (λ j below. sym (put_apart m j (old (Log m)) files (λ eq. omega (arith, below, eq)))) (more ∙ ap (λ o. with_batch body (gated o)) (sym (put_here m (old (Log m)) files))) entries plain turn next
-    ∙ ap turned (sym a.is)
+pub left_switched : (first m base : ℕ) (body : List ℕ) (fs : List Entry) (old files : Files) (may : Outcomes) → Around first m base old may → ((n : Name) → ¬ (n ≡ Log m) → may n (files n)) → gated (files (Log m)) ≡ with_batch body (gated (old (Log m)))
+    → entries_of body ≡ Some fs → no_switch fs ≡ false → switches m fs ≡ true → first + 1 ≤ 1000000 → m + 2 ≤ 1000000 → gated (files (Log (m + 1))) ≡ Ok (log_header (m + 1), [])
+    → log_of first files ≡ switched (log_of first old)
+left_switched first m base body fs old files may a others more entries plain switch low room next =
+    switched_in first m body fs (put_log m (old (Log m)) files) files a.found (was first m base old files may a others) a.at low room
+    (λ j below. sym (put_apart m j (old (Log m)) files (λ eq. omega (arith, below, eq)))) (more ∙ ap (λ o. with_batch body (gated o)) (sym (put_here m (old (Log m)) files))) entries plain switch next
+    ∙ ap switched (sym a.is)

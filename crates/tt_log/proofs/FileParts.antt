@@ -6,14 +6,15 @@ use Rattle.tt_gate.specs.declared.gate.GateRefusal.{GateRefusal}
 use Rattle.tt_gate.specs.declared.gate.GateRefusal.TheVariants.{Absent, BadHeader, BadBatch as GateBad, Failed as GateFailed}
 use Rattle.tt_disk.specs.Volume.{bytes_of}
 use Rattle.tt_gate.specs.Gate.{gated, whole_bodies}
-use Rattle.tt_gate.specs.Standing.{with_batch}
+use Rattle.tt_gate.specs.GateFile.{with_batch}
 use Rattle.tt_record.specs.declared.entry.Entry.{Entry}
-use Rattle.tt_record.specs.Reading.{entries_of}
+use Rattle.tt_record.specs.Read.{entries_of}
 use Rattle.tt_log.specs.Lengths.{total}
 use Rattle.tt_log.proofs.Sums.{total_more}
 use Rattle.tt_log.specs.declared.refusal.LogRefusal.{LogRefusal}
 use Rattle.tt_log.specs.declared.refusal.LogRefusal.TheVariants.{Gap, BadBatch}
-use Rattle.tt_log.specs.Walk.{Part, before, chosen, file_most, batch_read, is_last, offset_behind, bodies_read, same_bytes, log_header, part_of, file_read, no_switch, turns}
+use Rattle.tt_log.specs.Walk.{Part, before, chosen, batch_read, is_last, offset_behind, bodies_read, same_bytes, log_header, part_of, file_read, no_switch, switches}
+use Rattle.tt_log.specs.Limits.{FILE_MOST}
 
 abbrev ok : List Entry × Bool → Part
 ok part = Ok part
@@ -27,22 +28,22 @@ record Passed (offset : ℕ) (o : Option (List Entry)) (more : Part) (es : List 
   pub rest : List Entry
   pub is : o ≡ Some here
   pub plain : no_switch here ≡ true
-  pub fits : nat_le (offset + total here) file_most ≡ true
+  pub fits : nat_le (offset + total here) FILE_MOST ≡ true
   pub goes : more ≡ Ok (rest, false)
   pub all : es ≡ here ++ rest
 
-passed_before : (offset : ℕ) (gs : List Entry) (more : Part) (es : List Entry) → no_switch gs ≡ true → nat_le (offset + total gs) file_most ≡ true → before gs more ≡ Ok (es, false) → Passed offset (Some gs) more es
+passed_before : (offset : ℕ) (gs : List Entry) (more : Part) (es : List Entry) → no_switch gs ≡ true → nat_le (offset + total gs) FILE_MOST ≡ true → before gs more ≡ Ok (es, false) → Passed offset (Some gs) more es
 passed_before offset gs (Err e) es plain fits is = cc
 passed_before offset gs (Ok part) es plain fits is =
     let same : (gs ++ part.0, part.1) ≡ (es, false) = same_Ok _ _ is in
     record { here = gs; rest = part.0; is = refl; plain = plain; fits = fits; goes = ap (λ (b : Bool). Ok (part.0, b)) (ap (λ (p : List Entry × Bool). p.1) same); all = sym (ap (λ (p : List Entry × Bool). p.0) same) }
 
-passed_fits : (fits : Bool) (n at offset : ℕ) (gs : List Entry) (more : Part) (es : List Entry) → no_switch gs ≡ true → nat_le (offset + total gs) file_most ≡ fits → (if fits then before gs more else Err (BadBatch n at)) ≡ Ok (es, false) → Passed offset (Some gs) more es
+passed_fits : (fits : Bool) (n at offset : ℕ) (gs : List Entry) (more : Part) (es : List Entry) → no_switch gs ≡ true → nat_le (offset + total gs) FILE_MOST ≡ fits → (if fits then before gs more else Err (BadBatch n at)) ≡ Ok (es, false) → Passed offset (Some gs) more es
 passed_fits true n at offset gs more es plain fits is = passed_before offset gs more es plain fits is
 passed_fits false n at offset gs more es plain fits is = cc
 
-passed_chosen : (plain turn last : Bool) (gs : List Entry) (n at next offset : ℕ) (more : Part) (es : List Entry) → no_switch gs ≡ plain → chosen plain turn last gs n at next offset more ≡ Ok (es, false) → Passed offset (Some gs) more es
-passed_chosen true turn last gs n at next offset more es plain is = passed_fits (nat_le (offset + total gs) file_most) n at offset gs more es plain refl is
+passed_chosen : (plain switch last : Bool) (gs : List Entry) (n at next offset : ℕ) (more : Part) (es : List Entry) → no_switch gs ≡ plain → chosen plain switch last gs n at next offset more ≡ Ok (es, false) → Passed offset (Some gs) more es
+passed_chosen true switch last gs n at next offset more es plain is = passed_fits (nat_le (offset + total gs) FILE_MOST) n at offset gs more es plain refl is
 passed_chosen false true true gs n at next offset (Ok part) es plain is = absurd (let bad : true ≡ false = ap (λ (p : List Entry × Bool). p.1) (same_Ok _ _ is) in cc)
 passed_chosen false true true gs n at next offset (Err e) es plain is = cc
 passed_chosen false true false gs n at next offset more es plain is = cc
@@ -50,18 +51,18 @@ passed_chosen false false last gs n at next offset more es plain is = cc
 
 passed : (n at next offset : ℕ) (o : Option (List Entry)) (last : Bool) (more : Part) (es : List Entry) → batch_read n at next offset o last more ≡ Ok (es, false) → Passed offset o more es
 passed n at next offset None last more es is = cc
-passed n at next offset (Some gs) last more es is = passed_chosen (no_switch gs) (turns n gs) last gs n at next offset more es refl is
+passed n at next offset (Some gs) last more es is = passed_chosen (no_switch gs) (switches n gs) last gs n at next offset more es refl is
 
-plain_read : (n at next offset : ℕ) (o : Option (List Entry)) (last : Bool) (more : Part) (gs : List Entry) → o ≡ Some gs → no_switch gs ≡ true → nat_le (offset + total gs) file_most ≡ true → batch_read n at next offset o last more ≡ before gs more
+plain_read : (n at next offset : ℕ) (o : Option (List Entry)) (last : Bool) (more : Part) (gs : List Entry) → o ≡ Some gs → no_switch gs ≡ true → nat_le (offset + total gs) FILE_MOST ≡ true → batch_read n at next offset o last more ≡ before gs more
 plain_read n at next offset o last more gs is plain fits =
-    ap (λ p. batch_read n at next offset p last more) is ∙ ap (λ (b : Bool). chosen b (turns n gs) last gs n at next offset more) plain
+    ap (λ p. batch_read n at next offset p last more) is ∙ ap (λ (b : Bool). chosen b (switches n gs) last gs n at next offset more) plain
     ∙ ap (λ (b : Bool). if b then before gs more else Err (BadBatch n at)) fits
 
-pub bodies_push : (n at offset : ℕ) (bodies : List (List ℕ)) (body : List ℕ) (es fs : List Entry) → bodies_read n at offset bodies (Ok ([], false)) ≡ Ok (es, false) → entries_of body ≡ Some fs → no_switch fs ≡ true → offset + total es + total fs ≤ file_most
+pub bodies_push : (n at offset : ℕ) (bodies : List (List ℕ)) (body : List ℕ) (es fs : List Entry) → bodies_read n at offset bodies (Ok ([], false)) ≡ Ok (es, false) → entries_of body ≡ Some fs → no_switch fs ≡ true → offset + total es + total fs ≤ FILE_MOST
     → bodies_read n at offset (bodies ++ body ∷ []) (Ok ([], false)) ≡ Ok (es ++ fs, false)
 bodies_push n at offset [] body es fs first second plain room =
     let none : [] ≡ es = ap (λ (p : List Entry × Bool). p.0) (same_Ok _ _ first) in
-    plain_read n at (at + 9 + length body) offset (entries_of body) true (Ok ([], false)) fs second plain (le-leb (offset + total fs) file_most (omega (arith, room, ap total none)))
+    plain_read n at (at + 9 + length body) offset (entries_of body) true (Ok ([], false)) fs second plain (le-leb (offset + total fs) FILE_MOST (omega (arith, room, ap total none)))
     ∙ ap (λ (l : List Entry). Ok (l, false)) (append-nil fs ∙ ap (λ (l : List Entry). l ++ fs) none)
 bodies_push n at offset (b ∷ bodies) body es fs first second plain room =
     let next = at + 9 + length b in
@@ -73,19 +74,19 @@ bodies_push n at offset (b ∷ bodies) body es fs first second plain room =
     ∙ ap (before p.here) again
     ∙ ap (λ (l : List Entry). Ok (l, false)) (sym (append_assoc p.here p.rest fs) ∙ ap (λ (l : List Entry). l ++ fs) (sym p.all))
 
-turn_read : (n at next offset : ℕ) (o : Option (List Entry)) (part : List Entry × Bool) (gs : List Entry) → o ≡ Some gs → no_switch gs ≡ false → turns n gs ≡ true → batch_read n at next offset o true (Ok part) ≡ Ok ([], true)
-turn_read n at next offset o part gs is plain turn =
-    ap (λ p. batch_read n at next offset p true (Ok part)) is ∙ ap (λ (b : Bool). chosen b (turns n gs) true gs n at next offset (Ok part)) plain ∙ ap (λ (b : Bool). chosen false b true gs n at next offset (Ok part)) turn
+switch_read : (n at next offset : ℕ) (o : Option (List Entry)) (part : List Entry × Bool) (gs : List Entry) → o ≡ Some gs → no_switch gs ≡ false → switches n gs ≡ true → batch_read n at next offset o true (Ok part) ≡ Ok ([], true)
+switch_read n at next offset o part gs is plain switch =
+    ap (λ p. batch_read n at next offset p true (Ok part)) is ∙ ap (λ (b : Bool). chosen b (switches n gs) true gs n at next offset (Ok part)) plain ∙ ap (λ (b : Bool). chosen false b true gs n at next offset (Ok part)) switch
 
-pub bodies_turn : (n at offset : ℕ) (bodies : List (List ℕ)) (body : List ℕ) (es fs : List Entry) → bodies_read n at offset bodies (Ok ([], false)) ≡ Ok (es, false) → entries_of body ≡ Some fs → no_switch fs ≡ false → turns n fs ≡ true
+pub bodies_switch : (n at offset : ℕ) (bodies : List (List ℕ)) (body : List ℕ) (es fs : List Entry) → bodies_read n at offset bodies (Ok ([], false)) ≡ Ok (es, false) → entries_of body ≡ Some fs → no_switch fs ≡ false → switches n fs ≡ true
     → bodies_read n at offset (bodies ++ body ∷ []) (Ok ([], false)) ≡ Ok (es, true)
-bodies_turn n at offset [] body es fs first second plain turn =
+bodies_switch n at offset [] body es fs first second plain switch =
     let none : [] ≡ es = ap (λ (p : List Entry × Bool). p.0) (same_Ok _ _ first) in
-    turn_read n at (at + 9 + length body) offset (entries_of body) ([], false) fs second plain turn ∙ ap (λ (l : List Entry). Ok (l, true)) none
-bodies_turn n at offset (b ∷ bodies) body es fs first second plain turn =
+    switch_read n at (at + 9 + length body) offset (entries_of body) ([], false) fs second plain switch ∙ ap (λ (l : List Entry). Ok (l, true)) none
+bodies_switch n at offset (b ∷ bodies) body es fs first second plain switch =
     let next = at + 9 + length b in
     let p = passed n at next offset (entries_of b) (is_last bodies) (bodies_read n next (offset_behind offset (entries_of b)) bodies (Ok ([], false))) es first in
-    let again = bodies_turn n next (offset_behind offset (entries_of b)) bodies body p.rest fs p.goes second plain turn in
+    let again = bodies_switch n next (offset_behind offset (entries_of b)) bodies body p.rest fs p.goes second plain switch in
     plain_read n at next offset (entries_of b) (is_last (bodies ++ body ∷ [])) (bodies_read n next (offset_behind offset (entries_of b)) (bodies ++ body ∷ []) (Ok ([], false))) p.here p.is p.plain p.fits
     ∙ ap (before p.here) again
     ∙ ap (λ (l : List Entry). Ok (l, true)) (sym p.all)
@@ -117,17 +118,17 @@ by_gated n (Err Absent) body file file' es part first next = cc
 by_gated n (Err BadHeader) body file file' es part first next = cc
 by_gated n (Err GateFailed) body file file' es part first next = cc
 
-pub file_push : (n : ℕ) (old new : Option (List ℕ)) (body : List ℕ) (es fs : List Entry) → file_read n old ≡ Ok (es, false) → gated new ≡ with_batch body (gated old) → entries_of body ≡ Some fs → no_switch fs ≡ true → total es + total fs ≤ file_most
+pub file_push : (n : ℕ) (old new : Option (List ℕ)) (body : List ℕ) (es fs : List Entry) → file_read n old ≡ Ok (es, false) → gated new ≡ with_batch body (gated old) → entries_of body ≡ Some fs → no_switch fs ≡ true → total es + total fs ≤ FILE_MOST
     → file_read n new ≡ Ok (es ++ fs, false)
 unfolding file_read
 file_push n old new body es fs first is second plain room =
     ap (part_of n new) is ∙ by_gated n (gated old) body old new es (es ++ fs, false) first (λ bodies r. bodies_push n 16 0 bodies body es fs r second plain (omega (arith, room)))
 
-pub file_turn : (n : ℕ) (old new : Option (List ℕ)) (body : List ℕ) (es fs : List Entry) → file_read n old ≡ Ok (es, false) → gated new ≡ with_batch body (gated old) → entries_of body ≡ Some fs → no_switch fs ≡ false → turns n fs ≡ true
+pub file_switch : (n : ℕ) (old new : Option (List ℕ)) (body : List ℕ) (es fs : List Entry) → file_read n old ≡ Ok (es, false) → gated new ≡ with_batch body (gated old) → entries_of body ≡ Some fs → no_switch fs ≡ false → switches n fs ≡ true
     → file_read n new ≡ Ok (es, true)
 unfolding file_read
-file_turn n old new body es fs first is second plain turn =
-    ap (part_of n new) is ∙ by_gated n (gated old) body old new es (es, true) first (λ bodies r. bodies_turn n 16 0 bodies body es fs r second plain turn)
+file_switch n old new body es fs first is second plain switch =
+    ap (part_of n new) is ∙ by_gated n (gated old) body old new es (es, true) first (λ bodies r. bodies_switch n 16 0 bodies body es fs r second plain switch)
 
 same_part : (n : ℕ) (found : Result (List ℕ × List (List ℕ)) GateRefusal) (old new : Option (List ℕ)) (part : List Entry × Bool) → part_of n old found ≡ Ok (part.0, false) → part_of n new found ≡ Ok (part.0, false)
 same_part n (Ok found) old new part first = first

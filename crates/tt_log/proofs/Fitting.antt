@@ -2,8 +2,8 @@
 use Rattle.std.proofs.Common.{◌≡◌, ◌<◌, ◌+◌, ℕ, Bool, false, nat_le, nat_lt, List, [], ◌∷◌, Option, Some, None, refl, sym, ◌∙◌, ap, arith, if◌then◌else◌}
 use Rattle.std.proofs.lemmas.Bool.Decides.{nat_tests}
 use Rattle.tt_value.specs.declared.position.Position.{Position}
-use Rattle.tt_record.specs.Places.{position, end_of, place_of}
-use Rattle.tt_log.specs.Fits.{placed_then, all_placed}
+use Rattle.tt_record.specs.Place.{position, end_of, position_of}
+use Rattle.tt_log.specs.Placement.{placed_then, all_placed}
 
 not_le : (a b : ℕ) → b < a → nat_le a b ≡ false
 not_le a b below = grind (arith, nat_tests)
@@ -14,7 +14,7 @@ chosen fits end = if fits then end else position (end.file + 1) 0
 abbrev numbered : Position → Option Position
 numbered at = if nat_lt at.file 1000000 then Some at else None
 
-full_place : (file offset n size : ℕ) → size < offset → place_of (position file offset) n size ≡ numbered (position (file + 1) 0)
+full_place : (file offset n size : ℕ) → size < offset → position_of (position file offset) n size ≡ numbered (position (file + 1) 0)
 full_place file offset n size over = ap (λ (b : Bool). numbered (chosen b (position file offset))) (not_le (offset + n) size (omega (arith, over)))
 
 -- past the size of a file one end is as good as another
@@ -22,9 +22,3 @@ pub full_ends : (file a b size : ℕ) (rest : List ℕ) → size < a → size < 
 full_ends file a b size [] over other = refl
 full_ends file a b size (n ∷ rest) over other =
     ap (λ o. placed_then o (λ at. all_placed (end_of at n) size rest)) (full_place file a n size over ∙ sym (full_place file b n size other))
-
-pub one_placed : (end at : Position) (n size : ℕ) (rest : List ℕ) → place_of end n size ≡ Some at → all_placed end size (n ∷ rest) ≡ all_placed (end_of at n) size rest
-one_placed end at n size rest is = ap (λ o. placed_then o (λ p. all_placed (end_of p n) size rest)) is
-
-pub none_placed : (end : Position) (n size : ℕ) (rest : List ℕ) → place_of end n size ≡ None → all_placed end size (n ∷ rest) ≡ false
-none_placed end n size rest is = ap (λ o. placed_then o (λ p. all_placed (end_of p n) size rest)) is

@@ -3,20 +3,20 @@ use Rattle.std.proofs.Common.{◌≡◌, inl, inr, ◌<◌, ◌≤◌, ◌+◌, 
 use Rattle.tt_disk.specs.declared.volume.Name.TheVariants.{Log}
 use Rattle.tt_value.specs.declared.position.Position.{Position}
 use Rattle.tt_record.specs.declared.entry.Entry.{Entry}
-use Rattle.tt_record.specs.Places.{position}
+use Rattle.tt_record.specs.Place.{position}
 use Rattle.tt_log.specs.Lengths.{total}
 use Rattle.tt_log.specs.declared.file.FileEnd.{FileEnd}
-use Rattle.tt_log.specs.declared.start.LogEnd.{LogEnd}
+use Rattle.tt_log.specs.declared.opening.LogEnd.{LogEnd}
 use Rattle.tt_log.specs.declared.refusal.LogRefusal.{LogRefusal}
-use Rattle.tt_log.specs.declared.refusal.LogRefusal.TheVariants.{Gap, BadBatch}
-use Rattle.tt_log.specs.Walk.{Files, Found, file_read, placed, in_front, on_part, walk, log_of}
-use Rattle.tt_log.specs.Rests.{IsRefused}
-use Rattle.tt_log.specs.Starts.{has_place, where_place, started}
-use Rattle.tt_log.specs.Ends.{IsEnd, HasEnd, IsFileEnd, FoundEnd, IsFollowed}
+use Rattle.tt_log.specs.declared.refusal.LogRefusal.TheVariants.{Gap}
+use Rattle.tt_log.specs.Walk.{Files, LogContents, file_read, placed, in_front, on_part, walk, log_of}
+use Rattle.tt_log.specs.Batch.{IsRefused}
+use Rattle.tt_log.specs.Opening.{has_place, where_place, started}
+use Rattle.tt_log.specs.File.{IsEnd, HasEnd, IsFileEnd, FoundEnd, IsFollowed}
 use Rattle.tt_log.proofs.Walks.{in_front_twice}
 
 abbrev pub Standing : Type 0
-Standing = Result Found LogRefusal
+Standing = Result LogContents LogRefusal
 
 fuel : (most n : ℕ) (files : Files) → 1000000 - n ≡ suc most → 1000000 - (n + 1) ≡ most → walk (1000000 - n) n files ≡ on_part n (file_read n (files (Log n))) (walk (1000000 - (n + 1)) (n + 1) files)
 fuel most n files one two = ap (λ (k : ℕ). walk k n files) one ∙ ap (λ (k : ℕ). on_part n (file_read n (files (Log n))) (walk k (n + 1) files)) (sym two)
@@ -42,17 +42,17 @@ in_front_none (Err e) = refl
 pub gone_none : (n : ℕ) (files : Files) → GoneTo n n files
 gone_none n files = record { front = []; is = in_front_none (log_of n files) }
 
-pub gone_more : (n k : ℕ) (files : Files) (end : FileEnd) → k < 1000000 → GoneTo n k files → IsEnd (file_read k (files (Log k))) end → end.turned ≡ true → GoneTo n (k + 1) files
-gone_more n k files end below g e turned = record {
+pub gone_more : (n k : ℕ) (files : Files) (end : FileEnd) → k < 1000000 → GoneTo n k files → IsEnd (file_read k (files (Log k))) end → end.switched ≡ true → GoneTo n (k + 1) files
+gone_more n k files end below g e switched = record {
   front = g.front ++ placed k 0 e.es;
-  is = g.is ∙ ap (in_front g.front) (log_step k files below ∙ ap (λ p. on_part k p (log_of (k + 1) files)) (e.is ∙ ap (λ (b : Bool). Ok (e.es, b)) turned))
+  is = g.is ∙ ap (in_front g.front) (log_step k files below ∙ ap (λ p. on_part k p (log_of (k + 1) files)) (e.is ∙ ap (λ (b : Bool). Ok (e.es, b)) switched))
       ∙ in_front_twice g.front (placed k 0 e.es) (log_of (k + 1) files);
 }
 
-pub gone_end : (n k : ℕ) (files : Files) (end : FileEnd) → k < 1000000 → GoneTo n k files → IsEnd (file_read k (files (Log k))) end → end.turned ≡ false → FoundEnd (log_of n files) (position k end.total)
-gone_end n k files end below g e turned = record {
+pub gone_end : (n k : ℕ) (files : Files) (end : FileEnd) → k < 1000000 → GoneTo n k files → IsEnd (file_read k (files (Log k))) end → end.switched ≡ false → FoundEnd (log_of n files) (position k end.total)
+gone_end n k files end below g e switched = record {
   found = record { entries = g.front ++ placed k 0 e.es; end = position k (total e.es) };
-  is = g.is ∙ ap (in_front g.front) (log_step k files below ∙ ap (λ p. on_part k p (log_of (k + 1) files)) (e.is ∙ ap (λ (b : Bool). Ok (e.es, b)) turned));
+  is = g.is ∙ ap (in_front g.front) (log_step k files below ∙ ap (λ p. on_part k p (log_of (k + 1) files)) (e.is ∙ ap (λ (b : Bool). Ok (e.es, b)) switched));
   end = ap (λ (j : ℕ). position k j) e.long;
 }
 
@@ -74,26 +74,6 @@ end_refused wanted n file other r e says is same =
     subst (λ o. IsRefused e (file_read n o)) same h
 
 -- ---- a position from which the log is walked
-
-where_true : (from : Position) (r : Standing) → where_place from true r ≡ r
-where_true from (Ok found) = refl
-where_true from (Err e) = refl
-
-has_is : (from : Position) (files : Files) (first : FileEnd) → HasEnd from.offset (file_read from.file (files (Log from.file))) first → started from files ≡ where_place from first.is_place (log_of from.file files)
-has_is from files first h =
-    ap (λ p. where_place from (has_place from.offset p) (log_of from.file files)) h.end_is.is ∙ ap (λ (b : Bool). where_place from b (log_of from.file files)) (sym h.place)
-
-pub place_there : (from : Position) (files : Files) (first : FileEnd) → HasEnd from.offset (file_read from.file (files (Log from.file))) first → first.is_place ≡ true → started from files ≡ log_of from.file files
-place_there from files first h is = has_is from files first h ∙ ap (λ (b : Bool). where_place from b (log_of from.file files)) is ∙ where_true from (log_of from.file files)
-
-pub place_not : (from at : Position) (files : Files) (first : FileEnd) → HasEnd from.offset (file_read from.file (files (Log from.file))) first → first.is_place ≡ false → FoundEnd (log_of from.file files) at → started from files ≡ Err (BadBatch from.file 0)
-place_not from at files first h is f = has_is from files first h ∙ ap (λ (b : Bool). where_place from b (log_of from.file files)) is ∙ ap (where_place from false) f.is
-
-pub found_by : (r other : Standing) (at : Position) → other ≡ r → FoundEnd r at → FoundEnd other at
-found_by r other at same f = record { found = f.found; is = same ∙ f.is; end = f.end }
-
-pub followed_ok : (r : Standing) (q : Result LogEnd LogRefusal) (end : LogEnd) → IsFollowed r q → q ≡ Ok end → FoundEnd r end.at
-followed_ok r q end says is = let P : Result LogEnd LogRefusal → Type 0 = λ p. IsFollowed r p in subst P is says
 
 start_refused_by : (from : Position) (files : Files) (e : LogRefusal) → log_of from.file files ≡ Err e → started from files ≡ Err e
 start_refused_by from files e is = ap (where_place from (has_place from.offset (file_read from.file (files (Log from.file))))) is

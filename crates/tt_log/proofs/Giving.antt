@@ -2,28 +2,23 @@
 use Rattle.std.proofs.Common.{◌≡◌, ◌<◌, ◌≤◌, ◌+◌, ◌-◌, ◌==◌, ◌&&◌, ◌||◌, ℕ, List, [], ◌∷◌, filter, nat_le, nat_lt, not, Bool, true, false, Option, Result, Ok, Err, refl, sym, ap, ◌∙◌, subst, arith, if◌then◌else◌}
 use Rattle.std.specs.Prelude.{IsOk, IfOk, IfErr, length}
 use Rattle.std.proofs.lemmas.Bool.{le-leb, eqb-true, ltb-true}
-use Rattle.std.proofs.lemmas.Bool.Decides.{nat_tests}
 use Rattle.tt_value.specs.declared.position.Position.{Position}
 use Rattle.tt_record.specs.declared.entry.Entry.{Entry}
 use Rattle.tt_log.specs.declared.log.Log.{Log}
 use Rattle.tt_log.specs.declared.scan.Scan.{Scan}
 use Rattle.tt_log.specs.declared.refusal.LogRefusal.{LogRefusal}
-use Rattle.tt_log.specs.Walk.{Files, Found, Part, placed, in_front, log_of, is_from, is_since, since}
-use Rattle.tt_log.specs.Logs.{IsWhole, entries_in, walk_end, forced_of}
-use Rattle.tt_log.specs.Scans.{waiting, gate_offset, part_left, joined_from, ahead, IsScanning, from_here, left, given}
+use Rattle.tt_log.specs.Walk.{Files, LogContents, Part, placed, in_front, log_of, is_from, is_since, since}
+use Rattle.tt_log.specs.Log.{IsWhole, entries_in, walk_end, forced_of}
+use Rattle.tt_log.specs.Scan.{waiting, gate_offset, part_left, joined_from, ahead, IsScanning, from_here, left, given}
 use Rattle.tt_log.proofs.Following.{Standing}
 use Rattle.tt_log.proofs.Forcing.{is_found}
 use Rattle.tt_log.proofs.Purge.{log_later, since_forced}
 use Rattle.tt_log.proofs.Walks.{last_of}
-use Rattle.tt_log.proofs.Scanning.{start_ahead, turned_going}
+use Rattle.tt_log.proofs.Scanning.{start_ahead, switched_going}
 
 front_entries : (p : Position × Entry) (r s : Standing) → IsOk r → r ≡ in_front (p ∷ []) s → entries_in r ≡ p ∷ entries_in s
 front_entries p r (Ok found) whole is = ap entries_in is
 front_entries p r (Err e) whole is = absurd (let bad = subst (λ (q : Standing). IsOk q) is whole in cc)
-
-front_end : (p : Position × Entry) (r s : Standing) → IsOk r → r ≡ in_front (p ∷ []) s → walk_end s ≡ walk_end r
-front_end p r (Ok found) whole is = sym (ap walk_end is)
-front_end p r (Err e) whole is = absurd (let bad = subst (λ (q : Standing). IsOk q) is whole in cc)
 
 not_true : (b : Bool) → not b ≡ true → b ≡ false
 not_true true is = cc
@@ -46,13 +41,10 @@ given_one s t files p whole is same behind =
     ∙ ap (λ (b : Bool). if b then p ∷ filter (is_from s.from) (entries_in (ahead t files)) else filter (is_from s.from) (entries_in (ahead t files))) (not_false (is_from s.from p) behind)
     ∙ ap (λ (q : Position). p ∷ filter (is_from q) (entries_in (ahead t files))) (sym same)
 
-pub end_stays : (s t : Scan) (files : Files) (p : Position × Entry) → IsOk (ahead s files) → ahead s files ≡ in_front (p ∷ []) (ahead t files) → (walk_end (ahead t files)).file ≡ (walk_end (ahead s files)).file
-end_stays s t files p whole is = ap (λ (q : Position). q.file) (front_end p (ahead s files) (ahead t files) whole is)
-
 -- the scan's file isn't past the last one ahead
-walk_behind : (n : ℕ) (files : Files) (found : Found) → log_of n files ≡ Ok found → n ≤ found.end.file
+walk_behind : (n : ℕ) (files : Files) (found : LogContents) → log_of n files ≡ Ok found → n ≤ found.end.file
 unfolding log_of
-walk_behind n files found is = let l = last_of (1000000 - n) n files found is in omega (arith, l.above, ap (λ (f : Found). f.end.file) l.is)
+walk_behind n files found is = let l = last_of (1000000 - n) n files found is in omega (arith, l.above, ap (λ (f : LogContents). f.end.file) l.is)
 
 front_end_of : (ps : List (Position × Entry)) (r : Standing) → IsOk (in_front ps r) → (IsOk r) × (walk_end (in_front ps r) ≡ walk_end r)
 front_end_of ps (Ok found) whole = (refl, refl)
@@ -76,17 +68,11 @@ file_behind s files whole =
     let both = front_end_of (placed s.file s.offset (waiting s)) (joined_from s.file (gate_offset s) (part_left s files) (log_of (s.file + 1) files)) whole in
     omega (arith, joined_end s.file (gate_offset s) files (part_left s files) both.0, ap (λ (q : Position). q.file) both.1)
 
-pub left_here : (s : Scan) (log : Log) (files : Files) → s.file ≤ log.number → left s log files ≡ from_here s files
-left_here s log files le = ap (λ (b : Bool). if b then from_here s files else []) (le-leb s.file log.number le)
-
-pub left_past : (s : Scan) (log : Log) (files : Files) → log.number < s.file → left s log files ≡ []
-left_past s log files over = ap (λ (b : Bool). if b then from_here s files else []) (not_le s.file log.number over)
-  where
-    not_le : (a b : ℕ) → b < a → nat_le a b ≡ false
-    not_le a b below = grind (arith, nat_tests)
+pub left_here : (s : Scan) (log : Log) (files : Files) → s.file ≤ log.current_file → left s log files ≡ from_here s files
+left_here s log files le = ap (λ (b : Bool). if b then from_here s files else []) (le-leb s.file log.current_file le)
 
 -- what is left after a step that ends where it began
-pub left_after : (s t : Scan) (log : Log) (files other : Files) → IsOk (ahead t other) → (walk_end (ahead t other)).file ≡ (walk_end (ahead s files)).file → (walk_end (ahead s files)).file ≡ log.number → left t log other ≡ from_here t other
+pub left_after : (s t : Scan) (log : Log) (files other : Files) → IsOk (ahead t other) → (walk_end (ahead t other)).file ≡ (walk_end (ahead s files)).file → (walk_end (ahead s files)).file ≡ log.current_file → left t log other ≡ from_here t other
 left_after s t log files other whole same end = left_here t log other (omega (arith, file_behind t other whole, same, end))
 
 -- ---- a new scan
@@ -113,31 +99,31 @@ twice f g [] implies = refl
 twice f g (x ∷ xs) implies = twice_by (f x) (g x) x f (filter g xs) (filter f xs) refl (implies x) (twice f g xs implies)
 
 -- what a scan that hasn't begun has ahead
-new_ahead : (s : Scan) (log : Log) (now : Files) → IsWhole log now → s.begun ≡ false → s.at ≡ length s.body.items → s.offset ≡ 0 → log.first ≤ s.file → s.file ≤ log.number → log.number < 1000000
-    → ahead s now ≡ since s.file (log_of log.first now)
+new_ahead : (s : Scan) (log : Log) (now : Files) → IsWhole log now → s.begun ≡ false → s.at ≡ length s.body.items → s.offset ≡ 0 → log.first_file ≤ s.file → s.file ≤ log.current_file → log.current_file < 1000000
+    → ahead s now ≡ since s.file (log_of log.first_file now)
 new_ahead s log now w begun all offset low high top =
-    let f = is_found (log_of log.first now) log.number log.base w.0 w.1 in
+    let f = is_found (log_of log.first_file now) log.current_file log.forced_bytes w.0 w.1 in
     start_ahead s now begun all offset (omega (arith, high, top))
-    ∙ log_later log.first s.file log.number now f.found low high f.is f.at ∙ ap (since s.file) (sym f.is)
+    ∙ log_later log.first_file s.file log.current_file now f.found low high f.is f.at ∙ ap (since s.file) (sym f.is)
 
 since_end : (k : ℕ) (r : Standing) → IsOk r → (IsOk (since k r)) × (walk_end (since k r) ≡ walk_end r)
 since_end k (Ok found) is = (refl, refl)
 since_end k (Err e) is = absurd (let bad = is in cc)
 
-pub new_scanning : (s : Scan) (log : Log) (now : Files) → IsWhole log now → s.begun ≡ false → s.at ≡ length s.body.items → s.offset ≡ 0 → s.gate ≡ 16 → log.first ≤ s.file → log.number < 1000000 → IsScanning s log now
+pub new_scanning : (s : Scan) (log : Log) (now : Files) → IsWhole log now → s.begun ≡ false → s.at ≡ length s.body.items → s.offset ≡ 0 → s.gate ≡ 16 → log.first_file ≤ s.file → log.current_file < 1000000 → IsScanning s log now
 new_scanning s log now w begun all offset gate low top high =
     let same = new_ahead s log now w begun all offset low high top in
-    let ends = since_end s.file (log_of log.first now) w.0 in (
-      turned_going s now begun all offset gate (subst (λ (r : Standing). IsOk r) (sym same) ends.0),
+    let ends = since_end s.file (log_of log.first_file now) w.0 in (
+      switched_going s now begun all offset gate (subst (λ (r : Standing). IsOk r) (sym same) ends.0),
       ap (λ (r : Standing). (walk_end r).file) same ∙ ap (λ (q : Position). q.file) (ends.1 ∙ w.1),
     )
 
-pub new_left : (s : Scan) (log : Log) (now : Files) → IsWhole log now → s.begun ≡ false → s.at ≡ length s.body.items → s.offset ≡ 0 → s.file ≡ s.from.file → log.first ≤ s.file → s.file ≤ log.number → log.number < 1000000
+pub new_left : (s : Scan) (log : Log) (now : Files) → IsWhole log now → s.begun ≡ false → s.at ≡ length s.body.items → s.offset ≡ 0 → s.file ≡ s.from.file → log.first_file ≤ s.file → s.file ≤ log.current_file → log.current_file < 1000000
     → left s log now ≡ filter (is_from s.from) (forced_of log now)
 new_left s log now w begun all offset file low high top =
     left_here s log now high
     ∙ ap (λ (r : Standing). filter (is_from s.from) (entries_in r)) (new_ahead s log now w begun all offset low high top)
-    ∙ ap (filter (is_from s.from)) (since_forced s.file (log_of log.first now))
+    ∙ ap (filter (is_from s.from)) (since_forced s.file (log_of log.first_file now))
     ∙ ap (λ (k : ℕ). filter (is_from s.from) (filter (is_since k) (forced_of log now))) file
     ∙ twice (is_from s.from) (is_since s.from.file) (forced_of log now) (from_since s.from)
 

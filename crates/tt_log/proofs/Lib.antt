@@ -3,7 +3,7 @@ pub mod FileParts
 pub mod Walks
 pub mod Crash
 pub mod Forcing
-pub mod Turning
+pub mod Switching
 pub mod Adding
 pub mod Trails
 pub mod Making
@@ -15,10 +15,11 @@ pub mod Fitting
 pub mod Skips
 pub mod Reaching
 pub mod Following
-pub mod Taking
-pub mod Opening
+pub mod Visiting
+pub mod Opened
 pub mod Scanning
 pub mod Giving
 pub mod Standing
 pub mod Examples
 pub mod Presence
+pub mod Later

@@ -1,21 +1,21 @@
 -- Which log files are there behind a call.
-use Rattle.std.proofs.Common.{◌≡◌, ◌+◌, ◌≤◌, ℕ, Bool, true, false, nat_eq, List, Option, Some, None, if◌then◌else◌, refl, sym, ap, ◌∙◌, arith}
+use Rattle.std.proofs.Common.{◌≡◌, ◌⊎◌, inr, ◌+◌, ◌≤◌, ℕ, Bool, true, false, nat_eq, List, Option, Some, None, if◌then◌else◌, refl, sym, ap, ◌∙◌, arith}
 use Rattle.std.specs.Prelude.{IsSome, is_some, OnOk, OnErr, Result, Ok, Err}
-use Rattle.tt_disk.specs.Laws.{OnlyAt}
+use Rattle.tt_disk.specs.Volume.{OnlyAt}
 use Rattle.tt_disk.specs.declared.volume.Name.TheVariants.{Log as LogFile}
 use Rattle.tt_log.specs.declared.log.Log.{Log}
 use Rattle.tt_log.specs.Walk.{Files}
-use Rattle.tt_log.specs.Logs.{AddsFile, AddsNone, IsOpen, OnlyTwo}
+use Rattle.tt_log.specs.Log.{AddsFile, AddsNone, IsOpen, OnlyTwo, StandsStill, IsForced}
 use Rattle.tt_log.proofs.Crash.{Outcomes}
 use Rattle.tt_log.proofs.Standing.{file_there}
-use Rattle.tt_log.proofs.Turning.{apart_next}
+use Rattle.tt_log.proofs.Switching.{apart_next}
 
 some_there : (o : Option (List ℕ)) → IsSome o → is_some o ≡ true
 some_there (Some file) is = refl
 some_there None is = absurd (let bad = is in cc)
 
 -- the files from the first to the current one are there
-pub open_there : (log : Log) (now : Files) (may : Outcomes) (k : ℕ) → IsOpen log now may → log.first ≤ k → k ≤ log.number → is_some (now (LogFile k)) ≡ true
+pub open_there : (log : Log) (now : Files) (may : Outcomes) (k : ℕ) → IsOpen log now may → log.first_file ≤ k → k ≤ log.current_file → is_some (now (LogFile k)) ≡ true
 open_there log now may k o low high = some_there (now (LogFile k)) (file_there log now k (o.whole, o.end) low high log.numbers)
 
 -- where a file is there and the others are as they were, the file is all that was added
@@ -53,3 +53,7 @@ both_ok (Err e) f p q = tt
 pub whichever_fails : {T E : Type 0} {P : Type 0} (r : Result T E) → P → OnErr r P
 whichever_fails (Ok x) p = tt
 whichever_fails (Err e) p = p
+
+-- a failure after all entries were forced
+pub failed_forced : {T E : Type 0} (old new : Log) (r : Result T E) → IsForced old new → OnErr r (StandsStill old new ⊎ IsForced old new)
+failed_forced old new r forced = whichever_fails r (inr forced)

@@ -4,22 +4,22 @@ use Rattle.std.proofs.lemmas.Bool.Decides.{nat_tests}
 use Rattle.tt_disk.specs.declared.volume.Name.{Name}
 use Rattle.tt_disk.specs.declared.volume.Name.TheVariants.{Log as LogFile}
 use Rattle.tt_log.specs.declared.refusal.LogRefusal.{LogRefusal}
-use Rattle.tt_log.specs.Walk.{Files, Found, file_read, on_part, walk, log_of, since, is_since, no_switch}
-use Rattle.tt_record.specs.Places.{position}
-use Rattle.tt_log.specs.Logs.{MayLeave, LeavesThis, LeavesForced, IsOpen, is_between, OnlyBetween, walk_end, entries_in, or_none, unforced}
+use Rattle.tt_log.specs.Walk.{Files, LogContents, file_read, on_part, walk, log_of, since, is_since, no_switch}
+use Rattle.tt_record.specs.Place.{position}
+use Rattle.tt_log.specs.Log.{MayLeave, CrashLeavesLog, IsOpen, is_between, OnlyBetween, walk_end, entries_in, or_none, unforced}
 use Rattle.tt_log.proofs.Crash.{Outcomes, same_in}
 use Rattle.std.specs.Prelude.{IsOk}
 use Rattle.tt_disk.specs.Volume.{size_of}
 use Rattle.tt_gate.specs.declared.gate.GateFile.{GateFile}
 use Rattle.tt_gate.specs.Gate.{gated, end_of as gate_end}
-use Rattle.tt_gate.specs.Standing.{IsReady, bodies_of}
+use Rattle.tt_gate.specs.GateFile.{IsReady, bodies_of}
 use Rattle.tt_record.specs.declared.entry.Entry.{Entry}
-use Rattle.tt_record.specs.Reading.{entries_of}
-use Rattle.tt_record.specs.Entries.{IsBody}
+use Rattle.tt_record.specs.Read.{entries_of}
+use Rattle.tt_record.specs.Entry.{IsBody}
 use Rattle.tt_log.specs.Lengths.{total}
 use Rattle.tt_log.specs.declared.log.Log.{Log}
 use Rattle.tt_log.proofs.Forcing.{IsFound}
-use Rattle.tt_log.specs.Later.{log_from_later}
+use Rattle.tt_log.proofs.Later.{log_from_later}
 
 -- the files of a range as they were, the others as given
 abbrev put_range : ℕ → ℕ → Files → Files → Files
@@ -60,13 +60,13 @@ pub log_above : (k : ℕ) (files others : Files) → ((j : ℕ) → k ≤ j → 
 unfolding log_of
 log_above k files others same = walk_above (1000000 - k) k files others same
 
-pub log_later : (first k m : ℕ) (files : Files) (found : Found) → first ≤ k → k ≤ m → log_of first files ≡ Ok found → found.end.file ≡ m → log_of k files ≡ since k (Ok found)
+pub log_later : (first k m : ℕ) (files : Files) (found : LogContents) → first ≤ k → k ≤ m → log_of first files ≡ Ok found → found.end.file ≡ m → log_of k files ≡ since k (Ok found)
 log_later first k m files found low high is at = log_from_later first k files found low (omega (arith, high, at)) is
 
 -- what is left of a log from a later file on
 pub record Shrunk (first k : ℕ) (old new : Files) (may may' : Outcomes) : Type 0 where
   pub now : log_of k new ≡ since k (log_of first old)
-  pub crash : LeavesThis first (log_of first old) may → LeavesThis k (since k (log_of first old)) may'
+  pub crash : CrashLeavesLog first (log_of first old) may → CrashLeavesLog k (since k (log_of first old)) may'
 
 pub below_gone : (first k m base file : ℕ) (old new : Files) (may may' : Outcomes) → IsFound (log_of first old) m base → first ≤ k → file ≤ k → k ≤ m → m < 1000000 → ((n : Name) → may n (old n)) → OnlyBetween 0 file old new may may' → Shrunk first k old new may may'
 below_gone first k m base file old new may may' f low above high top reads only = record {
@@ -78,7 +78,7 @@ below_gone first k m base file old new may may' f low above high top reads only 
       ∙ log_later first k m files' f.found low high former f.at ∙ ap (since k) (sym f.is);
 }
 
-since_found : (k m base : ℕ) (r : Result Found LogRefusal) → IsFound r m base → IsFound (since k r) m base
+since_found : (k m base : ℕ) (r : Result LogContents LogRefusal) → IsFound r m base → IsFound (since k r) m base
 since_found k m base r f = record { found = record { entries = filter (is_since k) f.found.entries; end = f.found.end }; is = ap (since k) f.is; at = f.at; offset = f.offset }
 
 pub above_gone : (first k m base end : ℕ) (old mid new : Files) (may may1 may2 : Outcomes) → IsFound (log_of first old) m base → ((n : Name) → may1 n (mid n)) → Shrunk first k old mid may may1 → OnlyBetween (m + 1) end mid new may1 may2 → Shrunk first k old new may may2
@@ -107,28 +107,33 @@ ready_between file from end now now' may may' out only r =
       begun = r.begun;
     }
 
-pub shrunk_open : (log log' : Log) (now now' : Files) (may may' : Outcomes) → IsOpen log now may → Shrunk log.first log'.first now now' may may' → IsReady log.file now' may' → log'.file ≡ log.file → log'.number ≡ log.number → log'.base ≡ log.base → log'.used ≡ log.used → log'.buffer ≡ log.buffer → IsOpen log' now' may'
-shrunk_open log log' now now' may may' o s ready file number base used buffer =
-    let ends = since_end log'.first (log_of log.first now) o.whole in
-    let same : unforced log' ≡ unforced log = ap (λ (k : ℕ). or_none (entries_of (take k log'.buffer.items))) used ∙ ap (λ b. or_none (entries_of (take log.used b.items))) buffer in
+-- the log from a later file on, once others are gone
+pub record Removed (log : Log) (k : ℕ) (old new : Files) (may may' : Outcomes) : Type 0 where
+  pub shrunk : Shrunk log.first_file k old new may may'
+  pub ready : IsReady log.file new may'
+
+pub removed_open : (log log' : Log) (now now' : Files) (may may' : Outcomes) → IsOpen log now may → Removed log log'.first_file now now' may may' → log'.file ≡ log.file → log'.current_file ≡ log.current_file → log'.forced_bytes ≡ log.forced_bytes → log'.buffered ≡ log.buffered → log'.buffer ≡ log.buffer → IsOpen log' now' may'
+removed_open log log' now now' may may' o r file number base used buffer =
+    let ends = since_end log'.first_file (log_of log.first_file now) o.whole in
+    let same : unforced log' ≡ unforced log = ap (λ (k : ℕ). or_none (entries_of (take k log'.buffer.items))) used ∙ ap (λ b. or_none (entries_of (take log.buffered b.items))) buffer in
     record {
-      gate = subst (λ f. IsReady f now' may') (sym file) ready;
+      gate = subst (λ f. IsReady f now' may') (sym file) r.ready;
       fresh = ap (λ f. f.staged) file ∙ o.fresh;
-      body = subst (λ (l : List Entry). IsBody (take log'.used log'.buffer.items) l) (sym same)
-          (subst (λ (l : List ℕ). IsBody l (unforced log)) (sym (ap (λ (k : ℕ). take k log'.buffer.items) used ∙ ap (λ b. take log.used b.items) buffer)) o.body);
+      body = subst (λ (l : List Entry). IsBody (take log'.buffered log'.buffer.items) l) (sym same)
+          (subst (λ (l : List ℕ). IsBody l (unforced log)) (sym (ap (λ (k : ℕ). take k log'.buffer.items) used ∙ ap (λ b. take log.buffered b.items) buffer)) o.body);
       plain = ap no_switch same ∙ o.plain;
       long = ap total same ∙ o.long ∙ sym used;
-      whole = subst (λ r. IsOk r) (sym s.now) ends.0;
-      end = ap walk_end s.now ∙ ends.1 ∙ o.end ∙ ap (λ (k : ℕ). position k log.base) (sym number) ∙ ap (λ (k : ℕ). position log'.number k) (sym base);
+      whole = subst (λ r. IsOk r) (sym r.shrunk.now) ends.0;
+      end = ap walk_end r.shrunk.now ∙ ends.1 ∙ o.end ∙ ap (λ (k : ℕ). position k log.forced_bytes) (sym number) ∙ ap (λ (k : ℕ). position log'.current_file k) (sym base);
     }
   where
-    since_end : (k : ℕ) (r : Result Found LogRefusal) → IsOk r → IsOk (since k r) × (walk_end (since k r) ≡ walk_end r)
+    since_end : (k : ℕ) (r : Result LogContents LogRefusal) → IsOk r → IsOk (since k r) × (walk_end (since k r) ≡ walk_end r)
     since_end k (Ok found) is = (refl, refl)
     since_end k (Err e) is = cc
 
-pub since_forced : (k : ℕ) (r : Result Found LogRefusal) → entries_in (since k r) ≡ filter (is_since k) (entries_in r)
+pub since_forced : (k : ℕ) (r : Result LogContents LogRefusal) → entries_in (since k r) ≡ filter (is_since k) (entries_in r)
 since_forced k (Ok found) = refl
 since_forced k (Err e) = refl
 
-pub shrunk_kept : (log log' : Log) (now now' : Files) (may may' : Outcomes) → Shrunk log.first log'.first now now' may may' → LeavesForced log now may → LeavesForced log' now' may'
-shrunk_kept log log' now now' may may' s kept files left = s.crash kept files left ∙ sym s.now
+pub removed_forced : (log : Log) (k : ℕ) (now now' : Files) (may may' : Outcomes) → Removed log k now now' may may' → entries_in (log_of k now') ≡ filter (is_since k) (entries_in (log_of log.first_file now))
+removed_forced log k now now' may may' r = ap entries_in r.shrunk.now ∙ since_forced k (log_of log.first_file now)

@@ -1,27 +1,26 @@
 -- How far the entries of a file were read.
-use Rattle.std.proofs.Common.{◌≡◌, inl, inr, ◌+◌, ◌==◌, ◌||◌, ℕ, List, [], ◌++◌, length, Bool, true, false, Option, Some, Result, Ok, Err, refl, sym, ap, ◌∙◌, subst, arith, append_assoc}
+use Rattle.std.proofs.Common.{◌≡◌, ◌+◌, ◌==◌, ◌||◌, ℕ, List, [], ◌++◌, length, Bool, true, false, Option, Some, Result, Ok, Err, refl, sym, ap, ◌∙◌, subst, arith, append_assoc}
 use Rattle.std.proofs.lemmas.List.{append-nil}
 use Rattle.std.specs.Prelude.{Vec}
 use Rattle.std.specs.declared.alloc.Global.{Global}
 use Rattle.tt_gate.specs.declared.gate.Gate.TheVariants.{Full}
-use Rattle.tt_gate.specs.Answers.{gate_in}
-use Rattle.tt_gate.specs.Standing.{IsEnd as IsGateEnd}
+use Rattle.tt_gate.specs.Gate.{gate_in}
+use Rattle.tt_gate.specs.GateFile.{IsEnd as IsGateEnd}
 use Rattle.tt_gate.specs.Walk.{IsGate, first_gate, next_gate, last_gate}
 use Rattle.tt_record.specs.declared.entry.Entry.{Entry}
-use Rattle.tt_record.specs.Reading.{entries_of}
+use Rattle.tt_record.specs.Read.{entries_of}
 use Rattle.tt_log.specs.Lengths.{total}
 use Rattle.tt_log.specs.declared.batch.Batch.{Batch}
-use Rattle.tt_log.specs.declared.batch.Batch.TheVariants.{Closed, Turned, Entries}
+use Rattle.tt_log.specs.declared.batch.Batch.TheVariants.{Closed, Switched, Entries}
 use Rattle.tt_log.specs.declared.file.FileEnd.{FileEnd}
-use Rattle.tt_log.specs.declared.file.Reached.{Reached}
-use Rattle.tt_log.specs.declared.file.Went.{Went}
-use Rattle.tt_log.specs.declared.file.Went.TheVariants.{On, Ends}
+use Rattle.tt_log.specs.declared.file.FileCursor.{FileCursor}
+use Rattle.tt_log.specs.declared.file.BatchStep.{BatchStep}
+use Rattle.tt_log.specs.declared.file.BatchStep.TheVariants.{On, Ends}
 use Rattle.tt_log.specs.declared.refusal.LogRefusal.{LogRefusal}
-use Rattle.tt_log.specs.Walk.{Part, before, file_read}
-use Rattle.tt_log.specs.Rests.{rest_read, IsHeaded, IsRefused, IsBatch, IsPlain, GateSays}
-use Rattle.tt_log.specs.Starts.{starts_at}
-use Rattle.tt_log.specs.Ends.{HasEnd, HasGone, IsFileEnd, IsReached, Closes, ClosesIfEnded}
-use Rattle.tt_log.proofs.Heads.{file_headed}
+use Rattle.tt_log.specs.Walk.{Part, before}
+use Rattle.tt_log.specs.Batch.{rest_read, IsHeaded, IsRefused, IsBatch, IsPlain, GateSays}
+use Rattle.tt_log.specs.Opening.{starts_at}
+use Rattle.tt_log.specs.File.{HasEnd, HasRead, IsReached, Closes, ClosesIfEnded}
 use Rattle.tt_log.proofs.Sums.{total_more}
 use Rattle.tt_log.proofs.Skips.{starts_both}
 
@@ -36,8 +35,8 @@ is_closed n gate offset file r b says is one =
     let P : Answer → Type 0 = λ q. IsBatch n gate offset file q in
     subst P (is ∙ ap (λ (k : Batch). Ok k) one) says
 
-pub is_turned : (n gate offset : ℕ) (file : Option (List ℕ)) (r : Answer) (b : Batch) → IsBatch n gate offset file r → r ≡ Ok b → b ≡ Turned → rest_read n gate offset file ≡ Ok ([], true)
-is_turned n gate offset file r b says is one =
+pub is_switched : (n gate offset : ℕ) (file : Option (List ℕ)) (r : Answer) (b : Batch) → IsBatch n gate offset file r → r ≡ Ok b → b ≡ Switched → rest_read n gate offset file ≡ Ok ([], true)
+is_switched n gate offset file r b says is one =
     let P : Answer → Type 0 = λ q. IsBatch n gate offset file q in
     subst P (is ∙ ap (λ (k : Batch). Ok k) one) says
 
@@ -46,12 +45,12 @@ is_refused n gate offset file r e says is =
     let P : Answer → Type 0 = λ q. IsBatch n gate offset file q in
     subst P is says
 
-pub ended : (wanted n : ℕ) (file : Option (List ℕ)) (at : Reached) (end : FileEnd) (turned : Bool) → IsReached wanted n file at → rest_read n at.gate at.offset file ≡ Ok ([], turned)
-    → end.total ≡ at.offset → end.turned ≡ turned → end.is_place ≡ (at.starts || (at.offset == wanted)) → HasEnd wanted (rest_read n 16 0 file) end
-ended wanted n file at end turned r rest total_is turned_is place = record {
+pub ended : (wanted n : ℕ) (file : Option (List ℕ)) (at : FileCursor) (end : FileEnd) (switched : Bool) → IsReached wanted n file at → rest_read n at.gate at.offset file ≡ Ok ([], switched)
+    → end.total ≡ at.offset → end.switched ≡ switched → end.is_place ≡ (at.starts || (at.offset == wanted)) → HasEnd wanted (rest_read n 16 0 file) end
+ended wanted n file at end switched r rest total_is switched_is place = record {
   end_is = record {
     es = r.es;
-    is = r.is ∙ ap (before r.es) rest ∙ ap (λ (l : List Entry). Ok (l, turned)) (append-nil r.es) ∙ ap (λ (b : Bool). Ok (r.es, b)) (sym turned_is);
+    is = r.is ∙ ap (before r.es) rest ∙ ap (λ (l : List Entry). Ok (l, switched)) (append-nil r.es) ∙ ap (λ (b : Bool). Ok (r.es, b)) (sym switched_is);
     long = r.long ∙ sym total_is;
   };
   place = place ∙ ap (λ (b : Bool). b || (at.offset == wanted)) r.starts ∙ ap (λ (k : ℕ). starts_at wanted 0 r.es || (k == wanted)) (sym r.long);
@@ -61,7 +60,7 @@ pub before_twice : (es fs : List Entry) (part : Part) → before es (before fs p
 before_twice es fs (Ok part) = ap (λ (l : List Entry). Ok (l, part.1)) (sym (append_assoc es fs part.0))
 before_twice es fs (Err e) = refl
 
-pub reached_more : (wanted n : ℕ) (file : Option (List ℕ)) (at next : Reached) (body : List ℕ) → IsReached wanted n file at → IsPlain n at.gate at.offset file body → gate_in at.gate file ≡ Ok (Full (length body)) → next.gate ≡ at.gate + 9 + length body → next.offset ≡ at.offset + length body
+pub reached_more : (wanted n : ℕ) (file : Option (List ℕ)) (at next : FileCursor) (body : List ℕ) → IsReached wanted n file at → IsPlain n at.gate at.offset file body → gate_in at.gate file ≡ Ok (Full (length body)) → next.gate ≡ at.gate + 9 + length body → next.offset ≡ at.offset + length body
     → ((es : List Entry) → entries_of body ≡ Some es → total es ≡ length body → next.starts ≡ (at.starts || starts_at wanted at.offset es)) → IsReached wanted n file next
 reached_more wanted n file at next body r p says gate offset starts = record {
   es = r.es ++ p.es;
@@ -73,16 +72,11 @@ reached_more wanted n file at next body r p says gate offset starts = record {
       ∙ ap (λ (k : ℕ). starts_at wanted 0 r.es || starts_at wanted k p.es) (let e : at.offset ≡ 0 + total r.es = omega (arith, r.long) in e) ∙ sym (starts_both wanted 0 r.es p.es);
 }
 
-pub refused_before : (wanted n : ℕ) (file : Option (List ℕ)) (at : Reached) (e : LogRefusal) → IsReached wanted n file at → IsRefused e (rest_read n at.gate at.offset file) → IsRefused e (rest_read n 16 0 file)
-refused_before wanted n file at e r (inl failed) = inl failed
-refused_before wanted n file at e r (inr (inl wanting)) = inr (inl wanting)
-refused_before wanted n file at e r (inr (inr is)) = inr (inr (r.is ∙ ap (before r.es) is))
-
 pub none_before : (part : Part) → part ≡ before [] part
 none_before (Ok part) = refl
 none_before (Err e) = refl
 
-pub at_start : (wanted n : ℕ) (file : Option (List ℕ)) (at : Reached) → IsHeaded n file → at.gate ≡ 16 → at.offset ≡ 0 → at.starts ≡ false → IsReached wanted n file at
+pub at_start : (wanted n : ℕ) (file : Option (List ℕ)) (at : FileCursor) → IsHeaded n file → at.gate ≡ 16 → at.offset ≡ 0 → at.starts ≡ false → IsReached wanted n file at
 at_start wanted n file at headed gate offset starts = record {
   es = [];
   gate = subst (λ (k : ℕ). IsGate file k) (sym gate) (first_gate file headed.0);
@@ -91,17 +85,14 @@ at_start wanted n file at headed gate offset starts = record {
   starts = starts;
 }
 
-pub end_by : (wanted : ℕ) (part other : Part) (end : FileEnd) → other ≡ part → HasEnd wanted part end → HasEnd wanted other end
-end_by wanted part other end same h = subst (λ (p : Part). HasEnd wanted p end) (sym same) h
-
 pub is_plain : (n gate offset : ℕ) (file : Option (List ℕ)) (r : Answer) (b : Batch) (body : Bytes) → IsBatch n gate offset file r → r ≡ Ok b → b ≡ Entries body → IsPlain n gate offset file body.items
 is_plain n gate offset file r b body says is one =
     let P : Answer → Type 0 = λ q. IsBatch n gate offset file q in
     subst P (is ∙ ap (λ (k : Batch). Ok k) one) says
 
 -- the closed gate that ends a file
-pub closes_at : (wanted n : ℕ) (file : Option (List ℕ)) (at : Reached) (end : FileEnd) (b : Batch) → IsReached wanted n file at → GateSays at.gate file b → b ≡ Closed → end.gate ≡ at.gate → Closes file end
-closes_at wanted n file at end b r says one here turned = subst (λ (k : ℕ). IsGateEnd file k) (sym here) (last_gate file at.gate r.gate (subst (λ (k : Batch). GateSays at.gate file k) one says))
+pub closes_at : (wanted n : ℕ) (file : Option (List ℕ)) (at : FileCursor) (end : FileEnd) (b : Batch) → IsReached wanted n file at → GateSays at.gate file b → b ≡ Closed → end.gate ≡ at.gate → Closes file end
+closes_at wanted n file at end b r says one here switched = subst (λ (k : ℕ). IsGateEnd file k) (sym here) (last_gate file at.gate r.gate (subst (λ (k : Batch). GateSays at.gate file k) one says))
 
 pub says_full : (gate : ℕ) (file : Option (List ℕ)) (b : Batch) (body : Bytes) → GateSays gate file b → b ≡ Entries body → gate_in gate file ≡ Ok (Full (length body.items))
 says_full gate file b body says one = subst (λ (k : Batch). GateSays gate file k) one says
@@ -109,21 +100,17 @@ says_full gate file b body says one = subst (λ (k : Batch). GateSays gate file 
 pub closes_same : (file other : Option (List ℕ)) (end : FileEnd) → Closes file end → file ≡ other → Closes other end
 closes_same file other end closes same = subst (λ o. Closes o end) same closes
 
-pub end_closes : (file other : Option (List ℕ)) (w : Went) (end : FileEnd) → ClosesIfEnded file w → w ≡ Ends end → file ≡ other → Closes other end
-end_closes file other w end closes one same = closes_same file other end (subst (λ (k : Went). ClosesIfEnded file k) one closes) same
+pub end_closes : (file other : Option (List ℕ)) (w : BatchStep) (end : FileEnd) → ClosesIfEnded file w → w ≡ Ends end → file ≡ other → Closes other end
+end_closes file other w end closes one same = closes_same file other end (subst (λ (k : BatchStep). ClosesIfEnded file k) one closes) same
 
-pub gone_on : (wanted n : ℕ) (file other : Option (List ℕ)) (r : Result Went LogRefusal) (w : Went) (next : Reached) → HasGone wanted n file r → r ≡ Ok w → w ≡ On next → file ≡ other → IsReached wanted n other next
+pub gone_on : (wanted n : ℕ) (file other : Option (List ℕ)) (r : Result BatchStep LogRefusal) (w : BatchStep) (next : FileCursor) → HasRead wanted n file r → r ≡ Ok w → w ≡ On next → file ≡ other → IsReached wanted n other next
 gone_on wanted n file other r w next says is one same =
-    let P : Result Went LogRefusal → Type 0 = λ q. HasGone wanted n file q in
-    let h : IsReached wanted n file next = subst P (is ∙ ap (λ (k : Went). Ok k) one) says in
+    let P : Result BatchStep LogRefusal → Type 0 = λ q. HasRead wanted n file q in
+    let h : IsReached wanted n file next = subst P (is ∙ ap (λ (k : BatchStep). Ok k) one) says in
     subst (λ o. IsReached wanted n o next) same h
 
-pub gone_ends : (wanted n : ℕ) (file other : Option (List ℕ)) (r : Result Went LogRefusal) (w : Went) (end : FileEnd) → HasGone wanted n file r → r ≡ Ok w → w ≡ Ends end → file ≡ other → HasEnd wanted (rest_read n 16 0 other) end
+pub gone_ends : (wanted n : ℕ) (file other : Option (List ℕ)) (r : Result BatchStep LogRefusal) (w : BatchStep) (end : FileEnd) → HasRead wanted n file r → r ≡ Ok w → w ≡ Ends end → file ≡ other → HasEnd wanted (rest_read n 16 0 other) end
 gone_ends wanted n file other r w end says is one same =
-    let P : Result Went LogRefusal → Type 0 = λ q. HasGone wanted n file q in
-    let h : HasEnd wanted (rest_read n 16 0 file) end = subst P (is ∙ ap (λ (k : Went). Ok k) one) says in
+    let P : Result BatchStep LogRefusal → Type 0 = λ q. HasRead wanted n file q in
+    let h : HasEnd wanted (rest_read n 16 0 file) end = subst P (is ∙ ap (λ (k : BatchStep). Ok k) one) says in
     subst (λ o. HasEnd wanted (rest_read n 16 0 o) end) same h
-
-pub file_end_same : (wanted n : ℕ) (file other : Option (List ℕ)) (r : Result FileEnd LogRefusal) → IsHeaded n other → file ≡ other → IsFileEnd wanted (rest_read n 16 0 file) r → IsFileEnd wanted (file_read n other) r
-file_end_same wanted n file other r headed same is =
-    subst (λ (p : Part). IsFileEnd wanted p r) (ap (rest_read n 16 0) same ∙ sym (file_headed n other headed)) is

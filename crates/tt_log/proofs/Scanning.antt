@@ -6,21 +6,21 @@ use Rattle.tt_disk.specs.declared.volume.Name.TheVariants.{Log as LogFile}
 use Rattle.tt_disk.specs.Volume.{Keeps}
 use Rattle.tt_value.specs.declared.position.Position.{Position}
 use Rattle.tt_record.specs.declared.entry.Entry.{Entry}
-use Rattle.tt_record.specs.Entries.{length_of}
-use Rattle.tt_record.specs.Reading.{entry_at, entries_of, behind}
+use Rattle.tt_record.specs.Entry.{length_of}
+use Rattle.tt_record.specs.Read.{entry_at, entries_of, behind}
 use Rattle.tt_record.specs.BodyLaws.{entries_end, entries_step, entries_bad}
-use Rattle.tt_record.specs.Places.{position}
+use Rattle.tt_record.specs.Place.{position}
 use Rattle.tt_log.specs.Lengths.{total}
 use Rattle.tt_log.specs.declared.scan.Scan.{Scan}
 use Rattle.tt_log.specs.declared.refusal.LogRefusal.{LogRefusal}
 use Rattle.tt_log.specs.declared.refusal.LogRefusal.TheVariants.{Failed, NoMemory, Gap}
 use Rattle.tt_log.specs.Walk.{Files, Part, before, file_read, placed, in_front, on_part, log_of}
-use Rattle.tt_log.specs.Rests.{rest_read, IsHeaded, IsRefused, IsPlain}
-use Rattle.tt_log.specs.Logs.{or_none, entries_in}
-use Rattle.tt_log.specs.Scans.{waiting, gate_offset, part_left, joined_from, ahead, IsGoing}
+use Rattle.tt_log.specs.Batch.{rest_read, IsHeaded, IsRefused, IsPlain}
+use Rattle.tt_log.specs.Log.{or_none, entries_in}
+use Rattle.tt_log.specs.Scan.{waiting, gate_offset, part_left, joined_from, ahead, IsGoing}
 use Rattle.tt_log.proofs.Sums.{total_more}
 use Rattle.tt_log.proofs.Heads.{file_headed}
-use Rattle.tt_log.specs.Later.{found_ok}
+use Rattle.tt_log.proofs.Later.{found_ok}
 use Rattle.tt_log.proofs.Walks.{placed_more, in_front_twice}
 use Rattle.tt_log.proofs.Crash.{Outcomes}
 use Rattle.tt_log.proofs.Following.{Standing, log_step}
@@ -93,15 +93,15 @@ full_ahead s files begun all =
 pub closed_ahead : (s : Scan) (files : Files) → s.begun ≡ true → s.at ≡ length s.body.items → rest_read s.file s.gate s.offset (files (LogFile s.file)) ≡ Ok ([], false) → entries_in (ahead s files) ≡ []
 closed_ahead s files begun all is = ap entries_in (full_ahead s files begun all ∙ ap (λ p. joined_from s.file s.offset p (log_of (s.file + 1) files)) is)
 
-pub turned_ahead : (s t : Scan) (files other : Files) → s.begun ≡ true → s.at ≡ length s.body.items → rest_read s.file s.gate s.offset (files (LogFile s.file)) ≡ Ok ([], true) → other ≡ files
+pub switched_ahead : (s t : Scan) (files other : Files) → s.begun ≡ true → s.at ≡ length s.body.items → rest_read s.file s.gate s.offset (files (LogFile s.file)) ≡ Ok ([], true) → other ≡ files
     → t.begun ≡ false → t.at ≡ length t.body.items → t.offset ≡ 0 → t.file ≡ s.file + 1 → t.file < 1000000 → ahead t other ≡ ahead s files
-turned_ahead s t files other begun all is same begun' all' offset file below =
+switched_ahead s t files other begun all is same begun' all' offset file below =
     start_ahead t other begun' all' offset below
     ∙ ap (λ (f : Files). log_of t.file f) same ∙ ap (λ (k : ℕ). log_of k files) file
     ∙ sym (full_ahead s files begun all ∙ ap (λ p. joined_from s.file s.offset p (log_of (s.file + 1) files)) is ∙ none_in_front (log_of (s.file + 1) files))
 
-pub turned_going : (t : Scan) (other : Files) → t.begun ≡ false → t.at ≡ length t.body.items → t.offset ≡ 0 → t.gate ≡ 16 → IsOk (ahead t other) → IsGoing t other
-turned_going t other begun all offset gate whole = record {
+pub switched_going : (t : Scan) (other : Files) → t.begun ≡ false → t.at ≡ length t.body.items → t.offset ≡ 0 → t.gate ≡ 16 → IsOk (ahead t other) → IsGoing t other
+switched_going t other begun all offset gate whole = record {
   headed = λ is. absurd (let bad : true ≡ false = sym is ∙ begun in cc);
   unread = λ _. (gate, omega (arith, all, offset));
   body = none_waiting t all ∙ ap (λ (l : List Entry). Some l) (sym (waits_none t all));

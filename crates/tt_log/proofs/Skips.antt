@@ -4,13 +4,13 @@ use Rattle.std.proofs.lemmas.Bool.{eq-eqb, cases_eq}
 use Rattle.std.proofs.lemmas.Bool.Decides.{nat_tests}
 use Rattle.std.proofs.lemmas.List.{drop-drop}
 use Rattle.tt_record.specs.declared.entry.Entry.{Entry}
-use Rattle.tt_record.specs.Entries.{length_of}
+use Rattle.tt_record.specs.Entry.{length_of}
 use Rattle.tt_record.specs.EntryLaws.{some_bytes}
-use Rattle.tt_record.specs.Reading.{entry_at, entries_of, behind}
+use Rattle.tt_record.specs.Read.{entry_at, entries_of, behind}
 use Rattle.tt_record.specs.BodyLaws.{entries_step, entries_bad, entries_some}
 use Rattle.tt_log.specs.Lengths.{total}
-use Rattle.tt_log.specs.Bodies.{joined}
-use Rattle.tt_log.specs.Starts.{starts_at, HasEntry}
+use Rattle.tt_log.specs.Body.{joined}
+use Rattle.tt_log.specs.Opening.{starts_at, HasEntry}
 
 -- the entries before an offset, none of which starts where it is wanted
 pub record Skipped (bytes : List ℕ) (wanted at : ℕ) : Type 0 where
@@ -25,9 +25,6 @@ joined_none (Some fs) = refl
 pub joined_behind : (es : List Entry) (e : Entry) (o : Option (List Entry)) → joined es (behind e o) ≡ joined (es ++ e ∷ []) o
 joined_behind es e None = refl
 joined_behind es e (Some fs) = ap (λ (l : List Entry). Some l) (sym (append_assoc es (e ∷ []) fs))
-
-pub none_skipped : (bytes : List ℕ) (wanted : ℕ) → Skipped bytes wanted 0
-none_skipped bytes wanted = record { es = []; is = joined_none (entries_of bytes); low = λ gs. refl }
 
 pub not_eq : (a b : ℕ) → ¬ (a ≡ b) → (a == b) ≡ false
 not_eq a b apart = grind (arith, nat_tests)
@@ -81,9 +78,6 @@ no_rest bytes wanted at es s below none is =
     let bad = entries_bad (drop at bytes) (omega (arith, length-drop at bytes)) none in
     let clash : ◌≡◌ {A = Option (List Entry)} None (Some r.gs) = sym bad ∙ r.is in cc
 
-apart_below : (a b : ℕ) → a ≤ b → ¬ (b ≡ a) → a < b
-apart_below a b le apart = omega (arith, le, apart)
-
 here : (wanted at : ℕ) (gs : List Entry) → wanted ≤ at → (at ≡ wanted → 0 < length gs) → (at == wanted) ≡ starts_at wanted at gs
 here wanted at gs above some = by_case (cases_eq at wanted)
   where
@@ -93,7 +87,7 @@ here wanted at gs above some = by_case (cases_eq at wanted)
 
     by_case : (at ≡ wanted) ⊎ ¬ (at ≡ wanted) → (at == wanted) ≡ starts_at wanted at gs
     by_case (inl same) = eq-eqb at wanted same ∙ first gs same (some same)
-    by_case (inr apart) = not_eq at wanted apart ∙ sym (starts_low wanted at gs (let below : wanted < at = apart_below wanted at above apart in below))
+    by_case (inr apart) = not_eq at wanted apart ∙ sym (starts_low wanted at gs (let below : wanted < at = omega (arith, above, apart) in below))
 
 pub all_skipped : (bytes : List ℕ) (wanted at : ℕ) (es : List Entry) → Skipped bytes wanted at → wanted ≤ at → wanted < length bytes → entries_of bytes ≡ Some es → (at == wanted) ≡ starts_at wanted 0 es
 all_skipped bytes wanted at es s above inside is =

@@ -6,16 +6,18 @@ use Rattle.tt_disk.specs.declared.volume.Name.TheVariants.{Log}
 use Rattle.tt_gate.specs.declared.gate.GateRefusal.{GateRefusal}
 use Rattle.tt_gate.specs.declared.gate.GateRefusal.TheVariants.{Absent, BadHeader, BadBatch as GateBad, Failed as GateFailed}
 use Rattle.tt_gate.specs.Gate.{gated, whole_bodies}
-use Rattle.tt_value.specs.Words.{big_endian}
+use Rattle.tt_value.specs.BigEndian.{big_endian}
 use Rattle.tt_record.specs.declared.entry.Entry.{Entry}
 use Rattle.tt_record.specs.declared.entry.Entry.TheVariants.{Change, Commit, Abort, Mark, Switch}
 use Rattle.tt_value.specs.declared.position.Position.{Position}
-use Rattle.tt_record.specs.Reading.{entries_of}
-use Rattle.tt_record.specs.Places.{position}
-use Rattle.tt_record.specs.Entries.{length_of}
+use Rattle.tt_record.specs.Read.{entries_of}
+use Rattle.tt_record.specs.Place.{position}
+use Rattle.tt_record.specs.Entry.{length_of}
 use Rattle.tt_log.specs.Lengths.{total}
+use Rattle.tt_log.specs.Limits.{FILE_MOST, LAST_LOG_FILE, LOG_FILES_END}
 use Rattle.tt_log.specs.declared.refusal.LogRefusal.{LogRefusal}
 use Rattle.tt_log.specs.declared.refusal.LogRefusal.TheVariants.{Gap, BadBatch}
+use Rattle.tt_gate.specs.Limits.{FIRST_GATE, HEADER_LENGTH}
 
 -- the files by name, as they read or as a crash may leave them
 abbrev pub Files : Type 0
@@ -33,17 +35,17 @@ no_switch [] = true
 no_switch (e ∷ es) = if is_switch e then false else no_switch es
 
 -- the one Switch that may end a file
-abbrev pub turns_to : ℕ → Entry → Bool
-turns_to n (Change transaction place before after) = false
-turns_to n (Commit transaction) = false
-turns_to n (Abort transaction) = false
-turns_to n Mark = false
-turns_to n (Switch file) = (file == n + 1) && nat_lt n 999999
+abbrev pub switches_to : ℕ → Entry → Bool
+switches_to n (Change transaction place before after) = false
+switches_to n (Commit transaction) = false
+switches_to n (Abort transaction) = false
+switches_to n Mark = false
+switches_to n (Switch file) = (file == n + 1) && nat_lt n LAST_LOG_FILE
 
-abbrev pub turns : ℕ → List Entry → Bool
-turns n [] = false
-turns n (e ∷ []) = turns_to n e
-turns n (e ∷ f ∷ es) = false
+abbrev pub switches : ℕ → List Entry → Bool
+switches n [] = false
+switches n (e ∷ []) = switches_to n e
+switches n (e ∷ f ∷ es) = false
 
 -- what is read of a file: its entries, and whether a Switch ends them
 abbrev pub Part : Type 0
@@ -54,23 +56,19 @@ before es (Ok part) = Ok (es ++ part.0, part.1)
 before es (Err e) = Err e
 
 -- behind the Switch nothing stands, not even a gate that is damaged
-abbrev pub after_turn : Part → Part
-after_turn (Ok part) = Ok ([], true)
-after_turn (Err e) = Err e
-
--- the most bytes that the entries of one file have together
-abbrev pub file_most : ℕ
-file_most = 67108864
+abbrev pub after_switch : Part → Part
+after_switch (Ok part) = Ok ([], true)
+after_switch (Err e) = Err e
 
 -- a batch of entries that fit into the file, behind so many bytes of others; or the Switch, behind which no batch may stand
 abbrev pub chosen : Bool → Bool → Bool → List Entry → ℕ → ℕ → ℕ → ℕ → Part → Part
-chosen plain turn last es n at next offset more =
-    if plain then (if nat_le (offset + total es) file_most then before es more else Err (BadBatch n at))
-    else (if turn then (if last then after_turn more else Err (BadBatch n next)) else Err (BadBatch n at))
+chosen plain switch last es n at next offset more =
+    if plain then (if nat_le (offset + total es) FILE_MOST then before es more else Err (BadBatch n at))
+    else (if switch then (if last then after_switch more else Err (BadBatch n next)) else Err (BadBatch n at))
 
 abbrev pub batch_read : ℕ → ℕ → ℕ → ℕ → Option (List Entry) → Bool → Part → Part
 batch_read n at next offset None last more = Err (BadBatch n at)
-batch_read n at next offset (Some es) last more = chosen (no_switch es) (turns n es) last es n at next offset more
+batch_read n at next offset (Some es) last more = chosen (no_switch es) (switches n es) last es n at next offset more
 
 abbrev pub is_last : List (List ℕ) → Bool
 is_last [] = true
@@ -97,8 +95,8 @@ same_bytes (a ∷ as') [] = false
 same_bytes (a ∷ as') (b ∷ bs) = (a == b) && same_bytes as' bs
 
 abbrev pub part_of : ℕ → Option (List ℕ) → Result (List ℕ × List (List ℕ)) GateRefusal → Part
-part_of n file (Ok found) = if same_bytes found.0 (log_header n) then bodies_read n 16 0 found.1 (Ok ([], false)) else Err (Gap n)
-part_of n file (Err (GateBad at)) = if same_bytes (take 16 (bytes_of file)) (log_header n) then bodies_read n 16 0 (whole_bodies file) (Err (BadBatch n at)) else Err (Gap n)
+part_of n file (Ok found) = if same_bytes found.0 (log_header n) then bodies_read n FIRST_GATE 0 found.1 (Ok ([], false)) else Err (Gap n)
+part_of n file (Err (GateBad at)) = if same_bytes (take HEADER_LENGTH (bytes_of file)) (log_header n) then bodies_read n FIRST_GATE 0 (whole_bodies file) (Err (BadBatch n at)) else Err (Gap n)
 part_of n file (Err Absent) = Err (Gap n)
 part_of n file (Err BadHeader) = Err (Gap n)
 part_of n file (Err GateFailed) = Err (Gap n)
@@ -108,7 +106,7 @@ unfoldable pub file_read : ℕ → Option (List ℕ) → Part
 file_read n file = part_of n file (gated file)
 
 -- entries with their positions, and where they end
-pub record Found : Type 0 where
+pub record LogContents : Type 0 where
   pub entries : List (Position × Entry)
   pub end : Position
 
@@ -116,38 +114,38 @@ abbrev pub placed : ℕ → ℕ → List Entry → List (Position × Entry)
 placed n offset [] = []
 placed n offset (e ∷ es) = (position n offset, e) ∷ placed n (offset + length_of e) es
 
-abbrev pub in_front : List (Position × Entry) → Result Found LogRefusal → Result Found LogRefusal
+abbrev pub in_front : List (Position × Entry) → Result LogContents LogRefusal → Result LogContents LogRefusal
 in_front ps (Ok found) = Ok (record { entries = ps ++ found.entries; end = found.end })
 in_front ps (Err e) = Err e
 
-abbrev pub on_part : ℕ → Part → Result Found LogRefusal → Result Found LogRefusal
+abbrev pub on_part : ℕ → Part → Result LogContents LogRefusal → Result LogContents LogRefusal
 on_part n (Ok part) more = if part.1 then in_front (placed n 0 part.0) more else Ok (record { entries = placed n 0 part.0; end = position n (total part.0) })
 on_part n (Err e) more = Err e
 
-abbrev pub walk : ℕ → ℕ → Files → Result Found LogRefusal
+abbrev pub walk : ℕ → ℕ → Files → Result LogContents LogRefusal
 walk zero n files = Err (Gap n)
 walk (suc most) n files = on_part n (file_read n (files (Log n))) (walk most (n + 1) files)
 
 -- the entries from file n on, or the damage
-unfoldable pub log_of : ℕ → Files → Result Found LogRefusal
-log_of n files = walk (1000000 - n) n files
+unfoldable pub log_of : ℕ → Files → Result LogContents LogRefusal
+log_of n files = walk (LOG_FILES_END - n) n files
 
 -- these entries behind what is found
-abbrev pub with_more : List Entry → Result Found LogRefusal → Result Found LogRefusal
+abbrev pub with_more : List Entry → Result LogContents LogRefusal → Result LogContents LogRefusal
 with_more es (Ok found) = Ok (record { entries = found.entries ++ placed found.end.file found.end.offset es; end = position found.end.file (found.end.offset + total es) })
 with_more es (Err e) = Err e
 
 -- what is found, ending at the start of the next file
-abbrev pub turned : Result Found LogRefusal → Result Found LogRefusal
-turned (Ok found) = Ok (record { entries = found.entries; end = position (found.end.file + 1) 0 })
-turned (Err e) = Err e
+abbrev pub switched : Result LogContents LogRefusal → Result LogContents LogRefusal
+switched (Ok found) = Ok (record { entries = found.entries; end = position (found.end.file + 1) 0 })
+switched (Err e) = Err e
 
 -- in file k or behind it
 abbrev pub is_since : ℕ → Position × Entry → Bool
 is_since k p = nat_le k p.0.file
 
 -- what is found, from file k on
-abbrev pub since : ℕ → Result Found LogRefusal → Result Found LogRefusal
+abbrev pub since : ℕ → Result LogContents LogRefusal → Result LogContents LogRefusal
 since k (Ok found) = Ok (record { entries = filter (is_since k) found.entries; end = found.end })
 since k (Err e) = Err e
 
@@ -156,7 +154,7 @@ abbrev pub is_from : Position → Position × Entry → Bool
 is_from from p = nat_lt from.file p.0.file || ((p.0.file == from.file) && nat_le from.offset p.0.offset)
 
 -- the log without entries
-abbrev pub nothing : Found
+abbrev pub nothing : LogContents
 nothing = record { entries = []; end = position 0 0 }
 
 -- this position, or the head of the file behind it

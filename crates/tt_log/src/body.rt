@@ -1,11 +1,11 @@
-// The body of a batch.
+//! The body of a batch, entry by entry: entries without a Switch, or one Switch alone.
 ghost use Rattle.std.specs.Prelude.{◌≡◌, ◌<◌, ◌≤◌, ◌+◌, length, drop, IfOk, IfSome, if◌then◌else◌};
 ghost use Rattle.tt_record.specs.declared.entry.Entry.TheVariants.{Switch};
-ghost use Rattle.tt_record.specs.Entries.{BeginsWith, length_of};
-ghost use Rattle.tt_value.specs.WordLaws.{AreBytes};
-ghost use Rattle.tt_record.specs.Reading.{entry_at, entries_of};
-ghost use Rattle.tt_log.specs.Bodies.{SoFar, IsStep, body_in, switch_of};
-ghost use Rattle.tt_log.specs.Walk.{turns_to};
+ghost use Rattle.tt_record.specs.Entry.{BeginsWith, length_of};
+ghost use Rattle.tt_value.specs.BigEndianLaws.{AreBytes};
+ghost use Rattle.tt_record.specs.Read.{entry_at, entries_of};
+ghost use Rattle.tt_log.specs.Body.{SoFar, IsStep, body_in, switch_of};
+ghost use Rattle.tt_log.specs.Walk.{switches_to};
 
 use std::alloc::{AllocError, Global};
 use tt_record::{Entry, LOG_FILES_END, read_entry};
@@ -13,13 +13,13 @@ use tt_record::{Entry, LOG_FILES_END, read_entry};
 #[derive(Clone, Copy, Debug, PartialEq, Eq)]
 pub(crate) enum Body {
     Entries { total: u64 },
-    Turn,
+    NextFile,
     Bad,
 }
 
 // What a body of the one Switch is.
-fn turn_to(number: u32, file: u32) -> Body
-    ensures { result ≡ (if turns_to number (Switch file) then Body.Turn else Body.Bad) }
+fn classify_switch(number: u32, file: u32) -> Body
+    ensures { result ≡ (if switches_to number (Switch file) then Body.NextFile else Body.Bad) }
 {
     if number >= LOG_FILES_END - 1 {
         return Body::Bad;
@@ -27,7 +27,7 @@ fn turn_to(number: u32, file: u32) -> Body
     if file != number + 1 {
         return Body::Bad;
     }
-    Body::Turn
+    Body::NextFile
 }
 
 // The bytes from an offset on.
@@ -39,7 +39,7 @@ fn behind(bytes: &[u8], at: usize) -> &[u8]
 }
 
 // The entry at an offset, and its length.
-pub(crate) fn entry_behind(
+pub(crate) fn read_entry_at(
     alloc: Global,
     bytes: &[u8],
     at: usize,
@@ -54,7 +54,7 @@ pub(crate) fn entry_behind(
 }
 
 // The file that a Switch names.
-fn switched(entry: &Entry) -> Option<u32>
+fn next_file_of(entry: &Entry) -> Option<u32>
     ensures { result ≡ switch_of entry.now }
 {
     match entry {
@@ -76,10 +76,10 @@ fn read_step(alloc: Global, number: u32, bytes: &[u8], at: usize) -> Result<Step
     requires so_far { SoFar bytes.now at }
     ensures { IfOk result (λ step. IsStep number bytes.now at step) }
 {
-    let Some((entry, n)) = entry_behind(alloc, bytes, at)? else {
+    let Some((entry, n)) = read_entry_at(alloc, bytes, at)? else {
         return Ok(Step::Ends(Body::Bad));
     };
-    let Some(file) = switched(&entry) else {
+    let Some(file) = next_file_of(&entry) else {
         return Ok(Step::Goes(at + n));
     };
     if at > 0 {
@@ -88,7 +88,7 @@ fn read_step(alloc: Global, number: u32, bytes: &[u8], at: usize) -> Result<Step
     if n < bytes.len() {
         return Ok(Step::Ends(Body::Bad));
     }
-    Ok(Step::Ends(turn_to(number, file)))
+    Ok(Step::Ends(classify_switch(number, file)))
 }
 
 // What a batch's body is, in the file of this number.

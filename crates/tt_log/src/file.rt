@@ -1,22 +1,26 @@
-// The entries of a log file, from its first gate to its last.
+//! The entries of a log file, from its first gate to its last. Each batch is read once, and its entries are handed to a
+//! visitor before the next one is read.
 ghost use Rattle.std.specs.Prelude.{◌≡◌, ◌<◌, ◌≤◌, ◌+◌, ◌^◌, ◌||◌, ◌==◌, List, length, Some, IfOk, IfErr, IsErrOf, OnOk};
 ghost use Rattle.tt_disk.specs.declared.volume.Name.TheVariants.{Log as LogFile};
-ghost use Rattle.tt_disk.specs.Causes.{RoseWhere};
-ghost use Rattle.tt_disk.specs.Volume.{Keeps};
+ghost use Rattle.tt_gate.specs.Calls.{RoseWhereOn};
+ghost use Rattle.tt_disk.specs.Calls.{KeepsFiles};
+ghost use Rattle.tt_log.specs.Calls.{OfFile};
 ghost use Rattle.tt_record.specs.declared.entry.Entry.{Entry};
-ghost use Rattle.tt_record.specs.Reading.{entries_of};
+ghost use Rattle.tt_record.specs.Read.{entries_of};
 ghost use Rattle.tt_log.specs.Lengths.{total};
-ghost use Rattle.tt_log.specs.Starts.{starts_at};
-ghost use Rattle.tt_log.specs.Rests.{IsHeaded, rest_read};
-ghost use Rattle.tt_log.specs.Walk.{file_read, file_most, placed};
-ghost use Rattle.tt_log.specs.Takes.{Takes, TakesOn, TakesPart};
-ghost use Rattle.tt_log.specs.Ends.{IsFileEnd, IsReached, IsInRange, HasGone, GoesWithin, Closes, ClosesIfEnded};
+ghost use Rattle.tt_log.specs.Opening.{starts_at};
+ghost use Rattle.tt_log.specs.Batch.{IsHeaded, rest_read};
+ghost use Rattle.tt_log.specs.Walk.{file_read, placed};
+ghost use Rattle.tt_log.specs.Limits.{FILE_MOST};
+ghost use Rattle.tt_log.specs.Visitor.{Visits, VisitsBatch, VisitsPart};
+ghost use Rattle.tt_log.specs.File.{IsFileEnd, IsReached, IsInRange, HasRead, StepsWithin, Closes, ClosesIfEnded};
 ghost use Rattle.tt_log.specs.declared.refusal.LogRefusal.TheVariants.{Failed};
+ghost use Rattle.tt_gate.specs.Limits.{FIRST_GATE, LONGEST_FILE};
 
 use crate::batch::{Batch, check_header, read_batch};
+use crate::entry_offsets::body_starts;
 use crate::refusal::LogRefusal;
-use crate::starts::body_starts;
-use crate::taker::{Taker, give_body};
+use crate::visitor::{EntryVisitor, visit_body};
 use std::alloc::Global;
 use tt_disk::Volume;
 
@@ -26,7 +30,7 @@ pub(crate) struct FileEnd {
     // How many bytes its entries have, the Switch not counted.
     pub total: u32,
     // Whether a Switch ends them.
-    pub turned: bool,
+    pub switched: bool,
     // Whether the offset that was asked for is the start of an entry, or the end of all.
     pub is_place: bool,
     // Where the gate behind them lies. It is closed, unless a Switch stands behind it.
@@ -35,7 +39,7 @@ pub(crate) struct FileEnd {
 
 // How far a file was read.
 #[derive(Clone, Copy, Debug)]
-pub(crate) struct Reached {
+pub(crate) struct FileCursor {
     gate: u64,
     offset: u32,
     // Whether an entry that was read starts at the offset that was asked for.
@@ -43,35 +47,35 @@ pub(crate) struct Reached {
 }
 
 #[derive(Clone, Copy, Debug)]
-pub(crate) enum Went {
-    On(Reached),
+pub(crate) enum BatchStep {
+    On(FileCursor),
     Ends(FileEnd),
 }
 
 // Hands over the entries of a batch of these bytes, and goes on behind it.
-fn go_behind<T: Taker>(
+fn deliver_batch<T: EntryVisitor>(
     alloc: Global,
     number: u32,
     wanted: u32,
-    at: Reached,
+    at: FileCursor,
     body: &[u8],
-    taker: &mut T,
-) -> Result<Reached, LogRefusal>
-    requires inside { at.gate + 9 + length body.now < 2 ^ 62 }
-    requires room { at.offset + length body.now ≤ file_most }
+    visitor: &mut T,
+) -> Result<FileCursor, LogRefusal>
+    requires inside { at.gate + 9 + length body.now < LONGEST_FILE }
+    requires room { at.offset + length body.now ≤ FILE_MOST }
     ensures gate { IfOk result (λ next. next.gate ≡ at.gate + 9 + length body.now) }
     ensures offset { IfOk result (λ next. next.offset ≡ at.offset + length body.now) }
     ensures starts { IfOk result (λ next. (es : List Entry) → entries_of body.now ≡ Some es → total es ≡ length body.now
         → next.starts ≡ (at.starts || starts_at wanted at.offset es)) }
     ensures given { (es : List Entry) → entries_of body.now ≡ Some es
-        → OnOk result (Takes (T.took taker.old) (T.took taker.new) (placed number at.offset es)) }
+        → OnOk result (Visits (T.visited visitor.old) (T.visited visitor.new) (placed number at.offset es)) }
     ensures refused { IfErr result (λ e. e ≡ LogRefusal.NoMemory) }
 {
-    if let Err(_) = give_body(alloc, body, number, at.offset, taker) {
+    if let Err(_) = visit_body(alloc, body, number, at.offset, visitor) {
         return Err(LogRefusal::NoMemory);
     }
     match body_starts(alloc, body, at.offset, wanted) {
-        Ok(starts) => Ok(Reached {
+        Ok(starts) => Ok(FileCursor {
             gate: at.gate + 9 + body.len() as u64,
             offset: at.offset + body.len() as u32,
             starts: at.starts || starts,
@@ -80,46 +84,48 @@ fn go_behind<T: Taker>(
     }
 }
 
-fn end_at(at: Reached, wanted: u32, turned: bool) -> FileEnd
+fn end_at(at: FileCursor, wanted: u32, switched: bool) -> FileEnd
     ensures total { result.total ≡ at.offset }
-    ensures turned { result.turned ≡ turned }
+    ensures switched { result.switched ≡ switched }
     ensures place { result.is_place ≡ (at.starts || (at.offset == wanted)) }
     ensures gate { result.gate ≡ at.gate }
 {
     FileEnd {
         total: at.offset,
-        turned,
+        switched,
         is_place: at.starts || at.offset == wanted,
         gate: at.gate,
     }
 }
 
 // Reads one batch more.
-fn go_on<V: Volume, T: Taker>(
+fn read_next_batch<V: Volume, T: EntryVisitor>(
     alloc: Global,
     volume: &mut V,
     number: u32,
     wanted: u32,
-    at: Reached,
-    taker: &mut T,
-) -> Result<Went, LogRefusal>
-    requires headed { V.told → IsHeaded number (V.now volume.old (LogFile number)) }
-    requires gate { (0 < at.gate) × (at.gate < 2 ^ 62) }
-    requires reached { V.told → IsReached wanted number (V.now volume.old (LogFile number)) at }
-    requires room { at.offset ≤ file_most }
-    ensures exact { V.told → HasGone wanted number (V.now volume.old (LogFile number)) result }
-    ensures closed { V.told → IfOk result (λ went. ClosesIfEnded (V.now volume.old (LogFile number)) went) }
-    ensures within { IfOk result (λ went. GoesWithin number at.gate went) }
-    ensures given { V.told → TakesOn number (T.took taker.old) (T.took taker.new) at
-        (V.now volume.old (LogFile number)) result }
-    ensures keeps { V.told → Keeps (V.now volume.old) (V.now volume.new) (V.may volume.old) (V.may volume.new) }
-    ensures cause { RoseWhere V.exact (IsErrOf result Failed) (V.faults volume.old) (V.faults volume.new) }
+    at: FileCursor,
+    visitor: &mut T,
+) -> Result<BatchStep, LogRefusal>
+    requires headed { OfFile V.Volume number volume.old (λ file. IsHeaded number file) }
+    requires gate { (0 < at.gate) × (at.gate < LONGEST_FILE) }
+    requires reached { OfFile V.Volume number volume.old (λ file. IsReached wanted number file at) }
+    requires room { at.offset ≤ FILE_MOST }
+    ensures exact { OfFile V.Volume number volume.old (λ file. HasRead wanted number file result) }
+    ensures closed { OfFile V.Volume number volume.old (λ file. IfOk result (ClosesIfEnded file)) }
+    ensures within { IfOk result (λ went. StepsWithin number at.gate went) }
+    ensures given { OfFile V.Volume number volume.old (λ file.
+        VisitsBatch number (T.visited visitor.old) (T.visited visitor.new) at file result) }
+    ensures keeps { KeepsFiles V.Volume volume.old volume.new }
+    ensures cause { RoseWhereOn V.Volume volume.old volume.new (IsErrOf result Failed) }
 {
     match read_batch(alloc, volume, number, at.gate, at.offset) {
-        Ok(Batch::Closed) => Ok(Went::Ends(end_at(at, wanted, false))),
-        Ok(Batch::Turned) => Ok(Went::Ends(end_at(at, wanted, true))),
-        Ok(Batch::Entries { body }) => match go_behind(alloc, number, wanted, at, &body, taker) {
-            Ok(next) => Ok(Went::On(next)),
+        Ok(Batch::Closed) => Ok(BatchStep::Ends(end_at(at, wanted, false))),
+        Ok(Batch::Switched) => Ok(BatchStep::Ends(end_at(at, wanted, true))),
+        Ok(Batch::Entries { body }) => match deliver_batch(
+            alloc, number, wanted, at, &body, visitor,
+        ) {
+            Ok(next) => Ok(BatchStep::On(next)),
             Err(refusal) => Err(refusal),
         },
         Err(refusal) => Err(refusal),
@@ -127,54 +133,54 @@ fn go_on<V: Volume, T: Taker>(
 }
 
 // Reads the batches, from the first gate on.
-fn read_batches<V: Volume, T: Taker>(
+fn read_batches<V: Volume, T: EntryVisitor>(
     alloc: Global,
     volume: &mut V,
     number: u32,
     wanted: u32,
-    taker: &mut T,
+    visitor: &mut T,
 ) -> Result<FileEnd, LogRefusal>
-    requires headed { V.told → IsHeaded number (V.now volume.old (LogFile number)) }
-    ensures exact { V.told → IsFileEnd wanted (rest_read number 16 0 (V.now volume.old (LogFile number))) result }
-    ensures given { V.told → OnOk result (TakesPart number (T.took taker.old) (T.took taker.new)
-        (rest_read number 16 0 (V.now volume.old (LogFile number)))) }
-    ensures closed { V.told → IfOk result (λ end. Closes (V.now volume.old (LogFile number)) end) }
+    requires headed { OfFile V.Volume number volume.old (λ file. IsHeaded number file) }
+    ensures exact { OfFile V.Volume number volume.old (λ file. IsFileEnd wanted (rest_read number FIRST_GATE 0 file) result) }
+    ensures given { OfFile V.Volume number volume.old (λ file. OnOk result
+        (VisitsPart number (T.visited visitor.old) (T.visited visitor.new) (rest_read number FIRST_GATE 0 file))) }
+    ensures closed { OfFile V.Volume number volume.old (λ file. IfOk result (Closes file)) }
     ensures within { IfOk result (λ end. IsInRange number end) }
-    ensures keeps { V.told → Keeps (V.now volume.old) (V.now volume.new) (V.may volume.old) (V.may volume.new) }
-    ensures cause { RoseWhere V.exact (IsErrOf result Failed) (V.faults volume.old) (V.faults volume.new) }
+    ensures keeps { KeepsFiles V.Volume volume.old volume.new }
+    ensures cause { RoseWhereOn V.Volume volume.old volume.new (IsErrOf result Failed) }
 {
-    let mut at = Reached {
+    let mut at = FileCursor {
         gate: 16,
         offset: 0,
         starts: false,
     };
     'batches: loop {
-        match go_on(alloc, volume, number, wanted, at, taker) {
-            Ok(Went::On(next)) => at = next,
-            Ok(Went::Ends(end)) => return Ok(end),
+        match read_next_batch(alloc, volume, number, wanted, at, visitor) {
+            Ok(BatchStep::On(next)) => at = next,
+            Ok(BatchStep::Ends(end)) => return Ok(end),
             Err(refusal) => return Err(refusal),
         }
     }
 }
 
 // Reads a file, hands over its entries, and finds whether an offset is the start of one of them or their end.
-pub(crate) fn read_file<V: Volume, T: Taker>(
+pub(crate) fn read_file<V: Volume, T: EntryVisitor>(
     alloc: Global,
     volume: &mut V,
     number: u32,
     wanted: u32,
-    taker: &mut T,
+    visitor: &mut T,
 ) -> Result<FileEnd, LogRefusal>
-    ensures exact { V.told → IsFileEnd wanted (file_read number (V.now volume.old (LogFile number))) result }
-    ensures given { V.told → OnOk result (TakesPart number (T.took taker.old) (T.took taker.new)
-        (file_read number (V.now volume.old (LogFile number)))) }
-    ensures closed { V.told → IfOk result (λ end. Closes (V.now volume.old (LogFile number)) end) }
+    ensures exact { OfFile V.Volume number volume.old (λ file. IsFileEnd wanted (file_read number file) result) }
+    ensures given { OfFile V.Volume number volume.old (λ file. OnOk result
+        (VisitsPart number (T.visited visitor.old) (T.visited visitor.new) (file_read number file))) }
+    ensures closed { OfFile V.Volume number volume.old (λ file. IfOk result (Closes file)) }
     ensures within { IfOk result (λ end. IsInRange number end) }
-    ensures keeps { V.told → Keeps (V.now volume.old) (V.now volume.new) (V.may volume.old) (V.may volume.new) }
-    ensures cause { RoseWhere V.exact (IsErrOf result Failed) (V.faults volume.old) (V.faults volume.new) }
+    ensures keeps { KeepsFiles V.Volume volume.old volume.new }
+    ensures cause { RoseWhereOn V.Volume volume.old volume.new (IsErrOf result Failed) }
 {
     match check_header(volume, number) {
-        Ok(()) => read_batches(alloc, volume, number, wanted, taker),
+        Ok(()) => read_batches(alloc, volume, number, wanted, visitor),
         Err(refusal) => Err(refusal),
     }
 }

@@ -3,21 +3,20 @@
 
 mod batch;
 mod body;
+mod entry_offsets;
 mod file;
-mod fits;
 mod header;
 mod log;
+mod opening;
+mod placement;
 mod refusal;
-mod removal;
 mod scan;
-mod start;
-mod starts;
-mod taker;
 #[cfg(test)]
 mod tests;
+mod truncation;
+mod visitor;
 
-pub use batch::FILE_MOST;
 pub use log::Log;
 pub use refusal::LogRefusal;
 pub use scan::Scan;
-pub use taker::Taker;
+pub use visitor::EntryVisitor;

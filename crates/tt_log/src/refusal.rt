@@ -1,3 +1,4 @@
+//! Why a log can't be read.
 use std::alloc::AllocError;
 use tt_disk::Failed;
 

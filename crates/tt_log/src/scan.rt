@@ -1,15 +1,16 @@
-// The entries of a log in their order.
+//! A pass over the forced entries of a log in their order. It reads each file once, batch by batch, and holds one body.
 ghost use Rattle.std.specs.Prelude.{◌≡◌, ◌⊎◌, ◌<◌, ◌≤◌, ◌+◌, ◌-◌, ◌^◌, [], ◌∷◌, length, not, true, false};
 ghost use Rattle.std.specs.Prelude.{IfOk, IfErr, IfSome, OnOk, IsErrOf};
-ghost use Rattle.tt_disk.specs.Causes.{RoseWhere};
-ghost use Rattle.tt_disk.specs.Volume.{Keeps};
+ghost use Rattle.tt_disk.specs.Calls.{KeepsFiles};
 ghost use Rattle.tt_record.specs.declared.entry.Entry.{Entry};
-ghost use Rattle.tt_record.specs.Entries.{IsEntry};
-ghost use Rattle.tt_log.specs.Walk.{Files, file_most, is_from, in_front};
+ghost use Rattle.tt_record.specs.Entry.{IsEntry};
+ghost use Rattle.tt_log.specs.Walk.{Files, is_from, in_front};
+ghost use Rattle.tt_log.specs.Limits.{FILE_MOST, LAST_LOG_FILE, LOG_FILES_END};
 ghost use Rattle.tt_log.specs.declared.refusal.LogRefusal.TheVariants.{Failed, NoMemory};
+ghost use Rattle.tt_gate.specs.Limits.{FIRST_GATE, LONGEST_FILE};
 
 use crate::batch::{Batch, check_header, read_batch};
-use crate::body::entry_behind;
+use crate::body::read_entry_at;
 use crate::log::Log;
 use crate::refusal::LogRefusal;
 use std::alloc::Global;
@@ -32,8 +33,8 @@ pub struct Scan {
     body: Vec<u8>,
     at: usize,
     ghost inside: { at ≤ length body.items },
-    ghost gates: { (16 ≤ gate) × (gate < 2 ^ 62) },
-    ghost offsets: { offset + (length body.items - at) ≤ file_most },
+    ghost gates: { (FIRST_GATE ≤ gate) × (gate < LONGEST_FILE) },
+    ghost offsets: { offset + (length body.items - at) ≤ FILE_MOST },
 }
 
 // What was read next.
@@ -42,7 +43,7 @@ enum Loaded {
     // Entries.
     Body,
     // The Switch: the next file is to be read.
-    Turned,
+    Switched,
     // Nothing: the log ends here.
     Nothing,
 }
@@ -54,15 +55,18 @@ fn is_before(at: Position, from: Position) -> bool
 }
 
 impl Scan {
-    ghost use Rattle.tt_log.specs.Scans.{IsGoing, IsScanning, ahead, left, from_here, given, with_given, most_left};
-    ghost use Rattle.tt_log.specs.Logs.{entries_in, walk_end};
+    ghost use Rattle.tt_gate.specs.Calls.{RoseWhereOn};
+    ghost use Rattle.tt_log.specs.Calls.{OfFiles, OfBoth, FailsOn, FailsOrWantsMemoryOn};
+    ghost use Rattle.tt_log.specs.Scan.{IsGoing, IsScanning, StepsOn, EndsOn, HasMore, IsUsedUp, HasLess, Switches};
+    ghost use Rattle.tt_log.specs.Scan.{ahead, left, from_here, given, with_given, most_left};
+    ghost use Rattle.tt_log.specs.Log.{walk_end};
 
     // A scan that hasn't read anything.
     pub(crate) fn new(alloc: Global, from: Position) -> Scan
         ensures from { result.from ≡ from }
         ensures file { result.file ≡ from.file }
         ensures begun { result.begun ≡ false }
-        ensures gate { result.gate ≡ 16 }
+        ensures gate { result.gate ≡ FIRST_GATE }
         ensures offset { result.offset ≡ 0 }
         ensures body { result.body.items ≡ [] }
         ensures at { result.at ≡ 0 }
@@ -80,15 +84,14 @@ impl Scan {
 
     // Reads the header of the file, if it wasn't read.
     fn enter<V: Volume>(&mut self, volume: &mut V) -> Result<(), LogRefusal>
-        requires going { V.told → IsGoing self.old (V.now volume.old) }
-        ensures going { V.told → IsGoing self.new (V.now volume.new) }
-        ensures same { V.told → ahead self.new (V.now volume.new) ≡ ahead self.old (V.now volume.old) }
+        requires file { self.old.file < LOG_FILES_END }
+        requires going { OfFiles V.Volume volume.old (λ files. IsGoing self.old files) }
+        ensures steps { StepsOn V.Volume self.old self.new volume.old volume.new }
         ensures begun { OnOk result (self.new.begun ≡ true) }
-        ensures still { (self.new.from ≡ self.old.from) × (self.new.file ≡ self.old.file) × (self.new.gate ≡ self.old.gate)
+        ensures still { (self.new.file ≡ self.old.file) × (self.new.gate ≡ self.old.gate)
             × (self.new.offset ≡ self.old.offset) × (self.new.body ≡ self.old.body) × (self.new.at ≡ self.old.at) }
-        ensures refused { V.told → IfErr result (λ e. e ≡ Failed) }
-        ensures keeps { V.told → Keeps (V.now volume.old) (V.now volume.new) (V.may volume.old) (V.may volume.new) }
-        ensures cause { RoseWhere V.exact (IsErrOf result Failed) (V.faults volume.old) (V.faults volume.new) }
+        ensures refused { FailsOn V.Volume result }
+        ensures cause { RoseWhereOn V.Volume volume.old volume.new (IsErrOf result Failed) }
     {
         if self.begun {
             return Ok(());
@@ -103,11 +106,11 @@ impl Scan {
     }
 
     // Goes on in the next file.
-    fn turn(&mut self)
-        requires file { self.old.file < 999999 }
+    fn switch_file(&mut self)
+        requires file { self.old.file < LAST_LOG_FILE }
         ensures file { self.new.file ≡ self.old.file + 1 }
         ensures begun { self.new.begun ≡ false }
-        ensures gate { self.new.gate ≡ 16 }
+        ensures gate { self.new.gate ≡ FIRST_GATE }
         ensures offset { self.new.offset ≡ 0 }
         ensures at { self.new.at ≡ length self.new.body.items }
         ensures body { self.new.body ≡ self.old.body }
@@ -122,9 +125,9 @@ impl Scan {
 
     // Goes on in the body of the batch behind the gate.
     fn fill(&mut self, body: Vec<u8>)
-        requires none { self.old.at ≡ length self.old.body.items }
-        requires inside { self.old.gate + 9 + length body.items < 2 ^ 62 }
-        requires room { self.old.offset + length body.items ≤ file_most }
+        requires none { IsUsedUp self.old }
+        requires inside { self.old.gate + 9 + length body.items < LONGEST_FILE }
+        requires room { self.old.offset + length body.items ≤ FILE_MOST }
         ensures file { self.new.file ≡ self.old.file }
         ensures begun { self.new.begun ≡ self.old.begun }
         ensures gate { self.new.gate ≡ self.old.gate + 9 + length body.items }
@@ -140,31 +143,25 @@ impl Scan {
 
     // Reads what stands behind the gate, where all entries before it were given.
     fn load<V: Volume>(&mut self, volume: &mut V) -> Result<Loaded, LogRefusal>
-        requires file { self.old.file < 1000000 }
+        requires file { self.old.file < LOG_FILES_END }
         requires begun { self.old.begun ≡ true }
-        requires none { self.old.at ≡ length self.old.body.items }
-        requires going { V.told → IsGoing self.old (V.now volume.old) }
-        ensures going { V.told → IsGoing self.new (V.now volume.new) }
-        ensures same { V.told → ahead self.new (V.now volume.new) ≡ ahead self.old (V.now volume.old) }
-        ensures body { IfOk result (λ loaded. loaded ≡ Loaded.Body → self.new.at < length self.new.body.items) }
-        ensures turned { IfOk result (λ loaded. loaded ≡ Loaded.Turned → (self.new.at ≡ length self.new.body.items)
-            × (self.old.file < self.new.file)) }
-        ensures nothing { V.told → IfOk result (λ loaded. loaded ≡ Loaded.Nothing
-            → entries_in (ahead self.old (V.now volume.old)) ≡ []) }
-        ensures fewer { IfOk result (λ loaded. (loaded ≡ Loaded.Nothing → ⊥) → most_left self.new < most_left self.old) }
-        ensures from { self.new.from ≡ self.old.from }
-        ensures file { self.new.file < 1000000 }
+        requires none { IsUsedUp self.old }
+        requires going { OfFiles V.Volume volume.old (λ files. IsGoing self.old files) }
+        ensures steps { StepsOn V.Volume self.old self.new volume.old volume.new }
+        ensures body { IfOk result (λ loaded. loaded ≡ Loaded.Body → HasMore self.new) }
+        ensures switched { IfOk result (λ loaded. loaded ≡ Loaded.Switched → Switches self.old self.new) }
+        ensures nothing { IfOk result (λ got. got ≡ Loaded.Nothing → EndsOn V.Volume self.old volume.old) }
+        ensures fewer { IfOk result (λ loaded. (loaded ≡ Loaded.Nothing → ⊥) → HasLess self.old self.new) }
         ensures still { IfErr result (λ e. self.new ≡ self.old) }
-        ensures refused { V.told → IfErr result (λ e. (e ≡ Failed) ⊎ (e ≡ NoMemory)) }
-        ensures keeps { V.told → Keeps (V.now volume.old) (V.now volume.new) (V.may volume.old) (V.may volume.new) }
-        ensures cause { RoseWhere V.exact (IsErrOf result Failed) (V.faults volume.old) (V.faults volume.new) }
+        ensures refused { FailsOrWantsMemoryOn V.Volume result }
+        ensures cause { RoseWhereOn V.Volume volume.old volume.new (IsErrOf result Failed) }
     {
         let alloc = *self.body.allocator();
         match read_batch(alloc, volume, self.file, self.gate, self.offset) {
             Ok(Batch::Closed) => Ok(Loaded::Nothing),
-            Ok(Batch::Turned) => {
-                self.turn();
-                Ok(Loaded::Turned)
+            Ok(Batch::Switched) => {
+                self.switch_file();
+                Ok(Loaded::Switched)
             }
             Ok(Batch::Entries { body }) => {
                 self.fill(body);
@@ -174,24 +171,18 @@ impl Scan {
         }
     }
 
-    // The same of a file whose header may not have been read yet.
+    // Reads the header where it wasn't read, and then what stands behind the gate.
     fn enter_and_load<V: Volume>(&mut self, volume: &mut V) -> Result<Loaded, LogRefusal>
-        requires file { self.old.file < 1000000 }
-        requires none { self.old.at ≡ length self.old.body.items }
-        requires going { V.told → IsGoing self.old (V.now volume.old) }
-        ensures going { V.told → IsGoing self.new (V.now volume.new) }
-        ensures same { V.told → ahead self.new (V.now volume.new) ≡ ahead self.old (V.now volume.old) }
-        ensures body { IfOk result (λ loaded. loaded ≡ Loaded.Body → self.new.at < length self.new.body.items) }
-        ensures turned { IfOk result (λ loaded. loaded ≡ Loaded.Turned → (self.new.at ≡ length self.new.body.items)
-            × (self.old.file < self.new.file)) }
-        ensures nothing { V.told → IfOk result (λ loaded. loaded ≡ Loaded.Nothing
-            → entries_in (ahead self.old (V.now volume.old)) ≡ []) }
-        ensures fewer { IfOk result (λ loaded. (loaded ≡ Loaded.Nothing → ⊥) → most_left self.new < most_left self.old) }
-        ensures from { self.new.from ≡ self.old.from }
-        ensures file { self.new.file < 1000000 }
-        ensures refused { V.told → IfErr result (λ e. (e ≡ Failed) ⊎ (e ≡ NoMemory)) }
-        ensures keeps { V.told → Keeps (V.now volume.old) (V.now volume.new) (V.may volume.old) (V.may volume.new) }
-        ensures cause { RoseWhere V.exact (IsErrOf result Failed) (V.faults volume.old) (V.faults volume.new) }
+        requires file { self.old.file < LOG_FILES_END }
+        requires none { IsUsedUp self.old }
+        requires going { OfFiles V.Volume volume.old (λ files. IsGoing self.old files) }
+        ensures steps { StepsOn V.Volume self.old self.new volume.old volume.new }
+        ensures body { IfOk result (λ loaded. loaded ≡ Loaded.Body → HasMore self.new) }
+        ensures switched { IfOk result (λ loaded. loaded ≡ Loaded.Switched → Switches self.old self.new) }
+        ensures nothing { IfOk result (λ got. got ≡ Loaded.Nothing → EndsOn V.Volume self.old volume.old) }
+        ensures fewer { IfOk result (λ loaded. (loaded ≡ Loaded.Nothing → ⊥) → HasLess self.old self.new) }
+        ensures refused { FailsOrWantsMemoryOn V.Volume result }
+        ensures cause { RoseWhereOn V.Volume volume.old volume.new (IsErrOf result Failed) }
     {
         match self.enter(volume) {
             Ok(()) => self.load(volume),
@@ -201,25 +192,21 @@ impl Scan {
 
     // Reads on until there are entries, or until the log ends.
     fn refill<V: Volume>(&mut self, volume: &mut V) -> Result<bool, LogRefusal>
-        requires file { self.old.file < 1000000 }
-        requires none { self.old.at ≡ length self.old.body.items }
-        requires going { V.told → IsGoing self.old (V.now volume.old) }
-        ensures going { V.told → IsGoing self.new (V.now volume.new) }
-        ensures same { V.told → ahead self.new (V.now volume.new) ≡ ahead self.old (V.now volume.old) }
-        ensures some { IfOk result (λ more. more ≡ true → self.new.at < length self.new.body.items) }
-        ensures nothing { V.told → IfOk result (λ more. more ≡ false → entries_in (ahead self.old (V.now volume.old)) ≡ []) }
+        requires file { self.old.file < LOG_FILES_END }
+        requires none { IsUsedUp self.old }
+        requires going { OfFiles V.Volume volume.old (λ files. IsGoing self.old files) }
+        ensures steps { StepsOn V.Volume self.old self.new volume.old volume.new }
+        ensures some { IfOk result (λ more. more ≡ true → HasMore self.new) }
+        ensures nothing { IfOk result (λ more. more ≡ false → EndsOn V.Volume self.old volume.old) }
         ensures fewer { IfOk result (λ more. more ≡ true → most_left self.new < most_left self.old) }
-        ensures from { self.new.from ≡ self.old.from }
-        ensures file { self.new.file < 1000000 }
-        ensures refused { V.told → IfErr result (λ e. (e ≡ Failed) ⊎ (e ≡ NoMemory)) }
-        ensures keeps { V.told → Keeps (V.now volume.old) (V.now volume.new) (V.may volume.old) (V.may volume.new) }
-        ensures cause { RoseWhere V.exact (IsErrOf result Failed) (V.faults volume.old) (V.faults volume.new) }
+        ensures refused { FailsOrWantsMemoryOn V.Volume result }
+        ensures cause { RoseWhereOn V.Volume volume.old volume.new (IsErrOf result Failed) }
     {
         'files: loop {
             match self.enter_and_load(volume) {
                 Ok(Loaded::Body) => return Ok(true),
                 Ok(Loaded::Nothing) => return Ok(false),
-                Ok(Loaded::Turned) => {}
+                Ok(Loaded::Switched) => {}
                 Err(refusal) => return Err(refusal),
             }
         }
@@ -227,18 +214,14 @@ impl Scan {
 
     // Sees to it that an entry is at hand; `false` where the log ends.
     fn more<V: Volume>(&mut self, volume: &mut V) -> Result<bool, LogRefusal>
-        requires file { self.old.file < 1000000 }
-        requires going { V.told → IsGoing self.old (V.now volume.old) }
-        ensures going { V.told → IsGoing self.new (V.now volume.new) }
-        ensures same { V.told → ahead self.new (V.now volume.new) ≡ ahead self.old (V.now volume.old) }
-        ensures some { IfOk result (λ more. more ≡ true → self.new.at < length self.new.body.items) }
-        ensures nothing { V.told → IfOk result (λ more. more ≡ false → entries_in (ahead self.old (V.now volume.old)) ≡ []) }
+        requires file { self.old.file < LOG_FILES_END }
+        requires going { OfFiles V.Volume volume.old (λ files. IsGoing self.old files) }
+        ensures steps { StepsOn V.Volume self.old self.new volume.old volume.new }
+        ensures some { IfOk result (λ more. more ≡ true → HasMore self.new) }
+        ensures nothing { IfOk result (λ more. more ≡ false → EndsOn V.Volume self.old volume.old) }
         ensures fewer { IfOk result (λ more. more ≡ true → most_left self.new ≤ most_left self.old) }
-        ensures from { self.new.from ≡ self.old.from }
-        ensures file { self.new.file < 1000000 }
-        ensures refused { V.told → IfErr result (λ e. (e ≡ Failed) ⊎ (e ≡ NoMemory)) }
-        ensures keeps { V.told → Keeps (V.now volume.old) (V.now volume.new) (V.may volume.old) (V.may volume.new) }
-        ensures cause { RoseWhere V.exact (IsErrOf result Failed) (V.faults volume.old) (V.faults volume.new) }
+        ensures refused { FailsOrWantsMemoryOn V.Volume result }
+        ensures cause { RoseWhereOn V.Volume volume.old volume.new (IsErrOf result Failed) }
     {
         if self.at < self.body.len() {
             return Ok(true);
@@ -251,16 +234,16 @@ impl Scan {
         requires { self.old.at + n ≤ length self.old.body.items }
         ensures at { self.new.at ≡ self.old.at + n }
         ensures offset { self.new.offset ≡ self.old.offset + n }
-        ensures still { (self.new.from ≡ self.old.from) × (self.new.file ≡ self.old.file) × (self.new.begun ≡ self.old.begun)
-            × (self.new.gate ≡ self.old.gate) × (self.new.body ≡ self.old.body) }
+        ensures still { (self.new.from ≡ self.old.from) × (self.new.file ≡ self.old.file)
+            × (self.new.begun ≡ self.old.begun) × (self.new.gate ≡ self.old.gate) × (self.new.body ≡ self.old.body) }
     {
         self.at += n;
         self.offset += n as u32;
     }
 
-    // Takes the entry that is at hand.
+    // Visits the entry that is at hand.
     fn take(&mut self) -> Result<(Position, Entry), LogRefusal>
-        requires some { self.old.at < length self.old.body.items }
+        requires some { HasMore self.old }
         ensures going { (files : Files) → IsGoing self.old files → IsGoing self.new files }
         ensures given { (files : Files) → IsGoing self.old files
             → IfOk result (λ p. ahead self.old files ≡ in_front (p ∷ []) (ahead self.new files)) }
@@ -273,7 +256,7 @@ impl Scan {
         ensures file { self.new.file ≡ self.old.file }
     {
         let alloc = *self.body.allocator();
-        match entry_behind(alloc, &self.body, self.at) {
+        match read_entry_at(alloc, &self.body, self.at) {
             Ok(Some((entry, n))) => {
                 let at = Position {
                     file: self.file,
@@ -290,9 +273,9 @@ impl Scan {
         }
     }
 
-    // Takes the entry that is at hand; `None` where it stands before the scan's first position.
+    // Visits the entry that is at hand; `None` where it stands before the scan's first position.
     fn take_from(&mut self) -> Result<Option<(Position, Entry)>, LogRefusal>
-        requires some { self.old.at < length self.old.body.items }
+        requires some { HasMore self.old }
         ensures going { (files : Files) → IsGoing self.old files → IsGoing self.new files }
         ensures end { (files : Files) → IsGoing self.old files
             → (walk_end (ahead self.new files)).file ≡ (walk_end (ahead self.old files)).file }
@@ -328,18 +311,18 @@ impl Scan {
         log: &Log,
         volume: &mut V,
     ) -> Result<Option<(Position, Entry)>, LogRefusal>
-        requires scanning { V.told → IsScanning self.old log.now (V.now volume.old) }
-        ensures scanning { V.told → IsScanning self.new log.now (V.now volume.new) }
-        ensures next { V.told → IfOk result (λ o. left self.old log.now (V.now volume.old)
-            ≡ given o (left self.new log.now (V.now volume.new))) }
-        ensures still { V.told → IfErr result (λ e. left self.new log.now (V.now volume.new)
-            ≡ left self.old log.now (V.now volume.old)) }
+        requires scanning { OfFiles V.Volume volume.old (λ files. IsScanning self.old log.now files) }
+        ensures scanning { OfFiles V.Volume volume.new (λ files. IsScanning self.new log.now files) }
+        ensures next { OfBoth V.Volume volume.old volume.new (λ before after.
+            IfOk result (λ o. left self.old log.now before ≡ given o (left self.new log.now after))) }
+        ensures still { OfBoth V.Volume volume.old volume.new (λ before after.
+            IfErr result (λ e. left self.new log.now after ≡ left self.old log.now before)) }
         ensures entry { IfOk result (λ o. IfSome o (λ p. IsEntry p.1)) }
         ensures fewer { IfOk result (λ o. IfSome o (λ p. most_left self.new < most_left self.old)) }
-        ensures refused { V.told → IfErr result (λ e. (e ≡ Failed) ⊎ (e ≡ NoMemory)) }
+        ensures refused { FailsOrWantsMemoryOn V.Volume result }
         ensures from { self.new.from ≡ self.old.from }
-        ensures keeps { V.told → Keeps (V.now volume.old) (V.now volume.new) (V.may volume.old) (V.may volume.new) }
-        ensures cause { RoseWhere V.exact (IsErrOf result Failed) (V.faults volume.old) (V.faults volume.new) }
+        ensures keeps { KeepsFiles V.Volume volume.old volume.new }
+        ensures cause { RoseWhereOn V.Volume volume.old volume.new (IsErrOf result Failed) }
     {
         if self.file > log.current() {
             return Ok(None);
@@ -347,23 +330,23 @@ impl Scan {
         self.find(volume)
     }
 
-    // The same, where the scan isn't past the log's current file.
+    // The next entry at or behind the first position, where the scan isn't past the log's current file.
     fn find<V: Volume>(&mut self, volume: &mut V) -> Result<Option<(Position, Entry)>, LogRefusal>
-        requires file { self.old.file < 1000000 }
-        requires going { V.told → IsGoing self.old (V.now volume.old) }
-        ensures going { V.told → IsGoing self.new (V.now volume.new) }
-        ensures end { V.told → (walk_end (ahead self.new (V.now volume.new))).file
-            ≡ (walk_end (ahead self.old (V.now volume.old))).file }
-        ensures next { V.told → IfOk result (λ o. from_here self.old (V.now volume.old)
-            ≡ given o (from_here self.new (V.now volume.new))) }
-        ensures still { V.told → IfErr result (λ e. from_here self.new (V.now volume.new)
-            ≡ from_here self.old (V.now volume.old)) }
+        requires file { self.old.file < LOG_FILES_END }
+        requires going { OfFiles V.Volume volume.old (λ files. IsGoing self.old files) }
+        ensures going { OfFiles V.Volume volume.new (λ files. IsGoing self.new files) }
+        ensures end { OfBoth V.Volume volume.old volume.new (λ before after.
+            (walk_end (ahead self.new after)).file ≡ (walk_end (ahead self.old before)).file) }
+        ensures next { OfBoth V.Volume volume.old volume.new (λ before after.
+            IfOk result (λ o. from_here self.old before ≡ given o (from_here self.new after))) }
+        ensures still { OfBoth V.Volume volume.old volume.new (λ before after.
+            IfErr result (λ e. from_here self.new after ≡ from_here self.old before)) }
         ensures entry { IfOk result (λ o. IfSome o (λ p. IsEntry p.1)) }
         ensures fewer { IfOk result (λ o. IfSome o (λ p. most_left self.new < most_left self.old)) }
-        ensures refused { V.told → IfErr result (λ e. (e ≡ Failed) ⊎ (e ≡ NoMemory)) }
+        ensures refused { FailsOrWantsMemoryOn V.Volume result }
         ensures from { self.new.from ≡ self.old.from }
-        ensures keeps { V.told → Keeps (V.now volume.old) (V.now volume.new) (V.may volume.old) (V.may volume.new) }
-        ensures cause { RoseWhere V.exact (IsErrOf result Failed) (V.faults volume.old) (V.faults volume.new) }
+        ensures keeps { KeepsFiles V.Volume volume.old volume.new }
+        ensures cause { RoseWhereOn V.Volume volume.old volume.new (IsErrOf result Failed) }
     {
         'entries: loop {
             match self.more(volume) {

@@ -1,5 +1,7 @@
+//! Entries, files and crashes of a log over a volume in memory.
 ghost use Rattle.std.specs.Prelude.{◌≤◌};
-ghost use Rattle.tt_log.specs.Logs.{IsOpen};
+ghost use Rattle.tt_log.specs.Calls.{IsOpenOn};
+ghost use Rattle.tt_log.specs.Log.{first_file_of};
 
 mod failing;
 mod files;
@@ -19,8 +21,8 @@ fn first_from<V: Volume>(
     volume: &mut V,
     from: Position,
 ) -> Result<Option<Position>, LogRefusal>
-    requires open { V.told → IsOpen log.now (V.now volume.old) (V.may volume.old) }
-    requires low { log.now.first ≤ from.file }
+    requires open { IsOpenOn V.Volume log.now volume.old }
+    requires low { first_file_of log.now ≤ from.file }
 {
     let mut scan = log.scan(from);
     match scan.next(log, volume)? {

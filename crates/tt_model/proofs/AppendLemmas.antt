@@ -5,8 +5,8 @@ use Rattle.tt_value.specs.declared.value.Cell.{Cell}
 use Rattle.tt_value.specs.declared.position.Position.{Position}
 use Rattle.tt_record.specs.declared.entry.Entry.{Entry}
 use Rattle.tt_record.specs.declared.entry.Entry.TheVariants.{Change, Commit, Abort, Mark}
-use Rattle.tt_record.specs.Entries.{length_of}
-use Rattle.tt_record.specs.Places.{end_of}
+use Rattle.tt_record.specs.Entry.{length_of}
+use Rattle.tt_record.specs.Place.{end_of}
 use Rattle.tt_model.specs.Trail.{Trail}
 use Rattle.tt_model.specs.Committed.{Cells, put, changed, changed_by, committed}
 use Rattle.tt_model.specs.Live.{live, live_after, with_number, without_number, view_of, next_number}

@@ -3,7 +3,7 @@ use Rattle.std.proofs.Common.{◌≡◌, ◌≤◌, ◌<◌, ◌+◌, inl, inr, 
 use Rattle.std.proofs.lemmas.Bool.{cases_Bool, eqb-true, and_from, and_parts, both_ways}
 use Rattle.std.specs.Prelude.{bytes_eq, option_map, is_some}
 use Rattle.std.specs.List.{filter_map, cons_option}
-use Rattle.tt_value.specs.Orders.{text_of}
+use Rattle.tt_value.specs.Order.{text_of}
 use Rattle.tt_value.specs.declared.value.Row.{Row}
 use Rattle.tt_value.specs.declared.value.Cell.{Cell}
 use Rattle.tt_value.specs.declared.value.Cell.TheVariants.{Empty, Full}

@@ -5,7 +5,7 @@ use Rattle.std.proofs.lemmas.Slice.Eq.{bytes_eq-Decides}
 use Rattle.std.specs.Prelude.{◌==◌, bytes_eq, option_map, is_some, Result, Ok, Err}
 use Rattle.std.specs.List.{list_any}
 use Rattle.std.specs.Option.{option_or}
-use Rattle.tt_value.specs.Orders.{text_of}
+use Rattle.tt_value.specs.Order.{text_of}
 use Rattle.tt_value.specs.declared.position.Position.{Position}
 use Rattle.tt_value.specs.declared.value.Cell.TheVariants.{Full as FullCell}
 use Rattle.tt_value.specs.declared.refusal.Refusal.{Refusal}
@@ -20,17 +20,17 @@ use Rattle.tt_record.specs.declared.entry.Entry.TheVariants.{Commit}
 use Rattle.tt_set.specs.declared.settings.Settings.{Settings}
 use Rattle.tt_model.specs.Live.{numbers_from}
 use Rattle.tt_model.specs.Holders.{value_at}
-use Rattle.tt_model.specs.Found.{Found}
-use Rattle.tt_model.specs.Sets.{Sound, SetStanding}
+use Rattle.tt_model.specs.Opened.{Opened}
+use Rattle.tt_model.specs.Sets.{Readable, SetStanding}
 use Rattle.tt_model.specs.Tables.{Table, Index, PlacedRow, by_number, by_text, with_number_at, with_text_at, text_at, table_named, index_named}
-use Rattle.tt_model.specs.State.{State, Reader, Begun, live_in, next, cells_of, catalog, write_position, with_entry, with_edits, all_forced, reversals}
+use Rattle.tt_model.specs.State.{State, Reader, Underway, live_in, next, cells_of, catalog, write_position, with_entry, with_edits, all_forced, reversals}
 use Rattle.tt_model.specs.declared.definition.CellEdit.{CellEdit}
 use Rattle.tt_model.specs.Meaning.{Meant, Makes, Refuses, Gives, unless, first_of}
 use Rattle.tt_model.specs.System.{system_rows, in_transaction, deletes, bookmark, reader_on, reads, subscription, delete_bookmark, unsubscribe, acknowledge, acknowledge_in, bookmark_values, rewrites, drop_table, drop_index, meant_by_delete_bookmark, meant_by_unsubscribe, meant_by_acknowledge, meant_by_drop_table, meant_by_drop_index}
 use Rattle.tt_model.specs.Backups.{kind_done, row_of_set, set_edit, full_now, extended_now, with_set, backup_refusal}
 use Rattle.tt_model.specs.Sound.{IsSound, MayEdit}
 use Rattle.tt_model.specs.Checkpoint.{begin_checkpoint, copied, with_copies, with_all_copies, complete_where_due, completed, with_completion}
-use Rattle.tt_model.specs.Step.{Step, Answers, WantsMemory, line, unless_refused, forced_where, statement, made, made_in, number_for, no_number_for, no_place, no_system_place, edit_length, settled, is_durable, commit_of, rollback_of, rolled_back, rollback_lengths, end_length, system, system_done, open_at, given, closed, refused, kept_place, next_place_of, with_reader, backed_up, backup_place, backup_kind, checkpoint_open, no_checkpoint_number, least_open, begun_reply, completion_after, no_skip, given_to}
+use Rattle.tt_model.specs.Step.{Step, Answers, WantsMemory, line, unless_refused, forced_where, statement, made, made_in, number_for, no_number_for, no_position, no_system_position, edit_length, session_ended, is_durable, commit_of, rollback_of, rolled_back, rollback_lengths, end_length, system, system_done, open_at, given, closed, refused, kept_read, next_read_of, with_reader, backed_up, backup_position, backup_kind, checkpoint_open, no_checkpoint_number, least_open, begun_reply, completion_after, no_skip, given_to}
 use Rattle.tt_model.specs.Run.{Line, Run, begun}
 use Rattle.tt_model.specs.WholeRuns.{IsSession, AreOfSessions, ReadersHaveBookmarks, BookmarksStay}
 use Rattle.tt_model.proofs.AppendLemmas.{cells-Abort}
@@ -167,7 +167,7 @@ system-keeps : (name : List ℕ) (m : Meant) (s : State) → IsSound s → ((edi
 system-keeps name (Refuses r) s h f i = i
 system-keeps name (Gives rows) s h f i = i
 system-keeps name (Makes edits) s h f i =
-    keeps-unless name (no_system_place edits s) Done (system_done edits s) s i (keeps-system_done name edits s h ((f edits refl).0) ((f edits refl).1) i)
+    keeps-unless name (no_system_position edits s) Done (system_done edits s) s i (keeps-system_done name edits s h ((f edits refl).0) ((f edits refl).1) i)
 
 pub may_new : (s : State) (edits : List CellEdit) → IsSound s → AreNew edits → MayEdit (next s) edits s
 may_new s edits h n = new-MayEdit (next s) edits s h.entries (inr refl) n
@@ -202,15 +202,15 @@ stop_keeps name set s (Some r) e h i =
     (deletes-keep name 6 (r ∷ []) refl) i
 
 backed_up_keeps : (name : List ℕ) (set : ℕ) (kind : BackupKind) (s : State) → IsSound s → HasIn name (cells_of s) → HasIn name (cells_of ((backed_up set kind s).1))
-backed_up_keeps name set Full s h i = with_set_keeps name set (Some (Sound (full_now s))) s i
-backed_up_keeps name set FullEnable s h i = set_keeps name set (Some (Sound (full_now s))) s h i
+backed_up_keeps name set Full s h i = with_set_keeps name set (Some (Readable (full_now s))) s i
+backed_up_keeps name set FullEnable s h i = set_keeps name set (Some (Readable (full_now s))) s h i
 backed_up_keeps name set Incremental s h i = set_keeps name set (extended_now (s.sets set) s) s h i
 backed_up_keeps name set Stop s h i = stop_keeps name set s (row_of_set set s) refl h i
 backed_up_keeps name set IncrOrFull s h i = i
 
 backup_keeps : (name : List ℕ) (session set : ℕ) (kind : BackupKind) (s : State) → IsSound s → HasIn name (cells_of s) → HasIn name (cells_of ((backup_kind session set kind s).1))
 backup_keeps name session set kind s h i =
-    keeps-unless name (option_or (backup_refusal session s set kind) (backup_place set kind s)) ((backed_up set kind s).0) ((backed_up set kind s).1) s i (backed_up_keeps name set kind s h i)
+    keeps-unless name (option_or (backup_refusal session s set kind) (backup_position set kind s)) ((backed_up set kind s).0) ((backed_up set kind s).1) s i (backed_up_keeps name set kind s h i)
 
 -- ---- statements, commits and rollbacks
 
@@ -218,7 +218,7 @@ made_keeps : (name : List ℕ) (session : ℕ) (edits : List CellEdit) (s : Stat
 made_keeps name session [] s i = i
 made_keeps name session (e ∷ es) s i =
     let t : ℕ = number_for (s.own session) s in
-    keeps-unless name (option_or (no_number_for (s.own session) s) (no_place (map edit_length (e ∷ es)) s)) _ (made_in session t (e ∷ es) s) s i
+    keeps-unless name (option_or (no_number_for (s.own session) s) (no_position (map edit_length (e ∷ es)) s)) _ (made_in session t (e ∷ es) s) s i
     (subst (HasIn name) (sym (cells-with_edits t (e ∷ es) s)) i)
 
 statement_keeps : (name : List ℕ) (session : ℕ) (m : Meant) (s : State) → HasIn name (cells_of s) → HasIn name (cells_of ((statement session m s).1))
@@ -230,19 +230,19 @@ commit_keeps : (name : List ℕ) (session : ℕ) (o : Option ℕ) (s : State) �
 commit_keeps name session None s h e i = subst (HasIn name) (sym (cells_forced (is_durable session s) s)) i
 commit_keeps name session (Some t) s h e i =
     let mid : State = with_entry (Commit t) s in
-    keeps-unless name (no_place (end_length ∷ []) s) Done (settled session (forced_where (is_durable session s) mid)) s i
+    keeps-unless name (no_position (end_length ∷ []) s) Done (session_ended session (forced_where (is_durable session s) mid)) s i
     (subst (HasIn name) (sym (cells_forced (is_durable session s) mid)) (keeps-Commit name s t h ((h.owned).live session t e) i))
 
 rollback_keeps : (name : List ℕ) (session : ℕ) (o : Option ℕ) (s : State) → HasIn name (cells_of s) → HasIn name (cells_of ((rollback_of session o s).1))
 rollback_keeps name session None s i = i
 rollback_keeps name session (Some t) s i =
     let made : State = with_edits t (reversals t s.entries) s in
-    keeps-unless name (no_place (rollback_lengths t s) s) Done (settled session (rolled_back t s)) s i
+    keeps-unless name (no_position (rollback_lengths t s) s) Done (session_ended session (rolled_back t s)) s i
     (subst (HasIn name) (sym (cells-Abort t made ∙ cells-with_edits t (reversals t s.entries) s)) i)
 
 -- ---- checkpoints and forces
 
-cells_copied : (n : ℕ) (o : Option Begun) (s : State) → cells_of (copied n o s) ≡ cells_of s
+cells_copied : (n : ℕ) (o : Option Underway) (s : State) → cells_of (copied n o s) ≡ cells_of s
 cells_copied n None s = refl
 cells_copied n (Some b) s = refl
 
@@ -258,15 +258,15 @@ pub cells_begin : (s : State) → cells_of (begin_checkpoint s) ≡ cells_of s
 unfolding begin_checkpoint
 cells_begin s = refl
 
-cells_completed : (b : Begun) (s : State) → cells_of (completed b s) ≡ cells_of s
+cells_completed : (b : Underway) (s : State) → cells_of (completed b s) ≡ cells_of s
 unfolding completed all_forced
 cells_completed b s = refl
 
-cells_due : (b : Begun) (s : State) (c : Bool) → cells_of (if c then completed b s else s) ≡ cells_of s
+cells_due : (b : Underway) (s : State) (c : Bool) → cells_of (if c then completed b s else s) ≡ cells_of s
 cells_due b s true = cells_completed b s
 cells_due b s false = refl
 
-cells_where : (o : Option Begun) (s : State) → cells_of (complete_where_due o s) ≡ cells_of s
+cells_where : (o : Option Underway) (s : State) → cells_of (complete_where_due o s) ≡ cells_of s
 cells_where None s = refl
 cells_where (Some b) s = cells_due b s (length b.left == 0)
 
@@ -274,7 +274,7 @@ pub cells_with_completion : (s : State) → cells_of (with_completion s) ≡ cel
 unfolding with_completion
 cells_with_completion s = cells_where s.underway s
 
-cells-completion_after : (o : Option Begun) (s : State) → cells_of (completion_after o s) ≡ cells_of s
+cells-completion_after : (o : Option Underway) (s : State) → cells_of (completion_after o s) ≡ cells_of s
 cells-completion_after None s = refl
 cells-completion_after (Some b) s = cells_with_completion s
 
@@ -295,7 +295,7 @@ cells_unless (Some r) reply after s e = refl
 
 cells_open_at : (session : ℕ) (name : List ℕ) (o : Option PlacedRow) (s : State) → cells_of ((open_at session name o s).1) ≡ cells_of s
 cells_open_at session name None s = refl
-cells_open_at session name (Some r) s = cells_unless (option_map BookmarkBusy (reader_on name s)) Done (with_reader session (Some (record { bookmark = name; place = kept_place r })) s) s refl
+cells_open_at session name (Some r) s = cells_unless (option_map BookmarkBusy (reader_on name s)) Done (with_reader session (Some (record { bookmark = name; place = kept_read r })) s) s refl
 
 pub cells_opened : (session : ℕ) (name : List ℕ) (s : State) (c : Bool) → cells_of ((cond c (refused (BookmarkBusy session) s) (open_at session name (bookmark name s) s)).1) ≡ cells_of s
 cells_opened session name s true = refl
@@ -304,7 +304,7 @@ cells_opened session name s false = cells_open_at session name (bookmark name s)
 pub cells_given : (session : ℕ) (o : Option Reader) (n : ℕ) (s : State) → cells_of ((given session o n s).1) ≡ cells_of s
 cells_given session None n s = refl
 cells_given session (Some r) n s =
-    cells_unless (no_skip (next_place_of r n s)) ((given_to session r n s).0) ((given_to session r n s).1) s refl
+    cells_unless (no_skip (next_read_of r n s)) ((given_to session r n s).0) ((given_to session r n s).1) s refl
 
 pub cells_closed : (session : ℕ) (o : Option Reader) (s : State) → cells_of ((closed session o s).1) ≡ cells_of s
 cells_closed session None s = refl
@@ -391,14 +391,14 @@ kept_unless (Some r) reply after s k j = k
 kept_given : (s : State) (who n : ℕ) (o : Option Reader) → s.reader who ≡ o → IsSession who → Kept s → Kept ((given who o n s).1)
 kept_given s who n None e w k = k
 kept_given s who n (Some x) e w k =
-    kept_unless (no_skip (next_place_of x n s)) ((given_to who x n s).0) ((given_to who x n s).1) s k
-    (kept_one s who (Some (record x { place = next_place_of x n s })) w k
-    (λ r same. subst (λ (y : Reader). HasIn y.bookmark (cells_of s)) (some_reader (record x { place = next_place_of x n s }) r same) ((k who x e).1)))
+    kept_unless (no_skip (next_read_of x n s)) ((given_to who x n s).0) ((given_to who x n s).1) s k
+    (kept_one s who (Some (record x { place = next_read_of x n s })) w k
+    (λ r same. subst (λ (y : Reader). HasIn y.bookmark (cells_of s)) (some_reader (record x { place = next_read_of x n s }) r same) ((k who x e).1)))
 
 kept_open : (s : State) (who : ℕ) (name : List ℕ) (o : Option PlacedRow) → bookmark name s ≡ o → IsSession who → Kept s → Kept ((open_at who name o s).1)
 kept_open s who name None e w k = k
 kept_open s who name (Some r) e w k =
-    let reader : Reader = record { bookmark = name; place = kept_place r } in
+    let reader : Reader = record { bookmark = name; place = kept_read r } in
     kept_unless (option_map BookmarkBusy (reader_on name s)) Done (with_reader who (Some reader) s) s k
     (kept_one s who (Some reader) w k (λ x same. subst (λ (y : Reader). HasIn y.bookmark (cells_of s)) (some_reader reader x same) (there-in name s r e)))
 
@@ -453,7 +453,7 @@ stay-run (l ∷ ls) (r ∷ rs) s after w h k run =
 stay-run [] (r ∷ rs) s after w h k run = absurd run
 stay-run (l ∷ ls) [] s after w h k run = absurd run
 
-stay-begun : (settings : Settings) (found : Found) (files : ℕ → Bool) (sets : ℕ → Option SetStanding) → ReadersHaveBookmarks (begun settings found files sets)
+stay-begun : (settings : Settings) (found : Opened) (files : ℕ → Bool) (sets : ℕ → Option SetStanding) → ReadersHaveBookmarks (begun settings found files sets)
 unfolding begun with_entry
 stay-begun settings found files sets session r e = let no : ⊥ = cc in absurd no
 

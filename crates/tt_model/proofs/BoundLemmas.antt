@@ -7,7 +7,7 @@ use Rattle.tt_value.specs.declared.value.Cell.TheVariants.{Empty, Full}
 use Rattle.tt_model.specs.Committed.{Cells, is_full}
 use Rattle.tt_model.specs.Live.{numbers_from, numbers_below}
 use Rattle.tt_model.specs.Tables.{Catalog, PlacedRow, Subscribed, row_in, row_at, rows_of, by_number, table_of, index_of, number_at, text_at, position_at, with_text_at, catalog_of, bookmark_row, set_row, subscriptions_of, table_with}
-use Rattle.tt_model.specs.Damages.{SystemTable, system_table, id_of, breaks_catalog, breaks_table, is_bad_system, is_bad_catalog_row, is_bad_catalog_at, is_bad_user_row, is_bad_row_at, first_bad_catalog, first_bad_row}
+use Rattle.tt_model.specs.Damage.{SystemTable, system_table, id_of, breaks_catalog, breaks_table, is_bad_system, is_bad_catalog_row, is_bad_catalog_at, is_bad_user_row, is_bad_row_at, first_bad_catalog, first_bad_row}
 use Rattle.tt_model.specs.GoodRows.{AreGood}
 use Rattle.tt_model.specs.StepLaws.{CatalogIsBelowItsBound}
 use Rattle.tt_model.proofs.IsolationLemmas.{empty_above, rows_of-bounds}

@@ -13,15 +13,15 @@ use Rattle.tt_parse.specs.declared.command.BackupKind.TheVariants.{Full, FullEna
 use Rattle.tt_record.specs.declared.entry.Entry.{Entry}
 use Rattle.tt_record.specs.declared.entry.Entry.TheVariants.{Change, Commit, Abort}
 use Rattle.tt_model.specs.Tables.{PlacedRow}
-use Rattle.tt_model.specs.Sets.{SetStanding, Sound, Unsound}
-use Rattle.tt_model.specs.State.{State, Begun, Reader, all_forced, at_one, force_position, holds, live_in, next, place_for, reversals, stale_after, with_edit, with_edits, with_entry, write_position}
+use Rattle.tt_model.specs.Sets.{SetStanding, Readable, Unreadable}
+use Rattle.tt_model.specs.State.{State, Underway, Reader, all_forced, at_one, force_position, holds, live_in, next, place_for, reversals, stale_after, with_edit, with_edits, with_entry, write_position}
 use Rattle.tt_model.specs.declared.definition.CellEdit.{CellEdit}
 use Rattle.tt_model.specs.Checkpoint.{begin_checkpoint, copied, with_all_copies, with_completion, with_copies, without_pages}
 use Rattle.tt_model.specs.Meaning.{Meant, Refuses, Gives, Makes}
 use Rattle.tt_model.specs.System.{bookmark, deletes, reader_on}
 use Rattle.tt_model.specs.Backups.{backup_refusal, extended_now, full_now, kind_done, row_of_set, set_edit, with_set}
 use Rattle.tt_model.specs.Holds.{least_hold_of}
-use Rattle.tt_model.specs.Step.{Answered, backed_up, backup_kind, backup_place, begun_reply, blocking_line, checkpoint_line, closed, commit_of, edit_length, end_length, forced_where, given, given_to, next_place_of, no_skip, is_durable, least_open, line, made, made_in, no_checkpoint_number, no_number_for, no_place, no_system_place, number_for, open_at, refused, rollback_lengths, rollback_of, rolled_back, settled, statement, system, system_done, unless_refused}
+use Rattle.tt_model.specs.Step.{Answered, backed_up, backup_kind, backup_position, begun_reply, blocking_line, checkpoint_line, closed, commit_of, edit_length, end_length, forced_where, given, given_to, next_read_of, no_skip, is_durable, least_open, line, made, made_in, no_checkpoint_number, no_number_for, no_position, no_system_position, number_for, open_at, refused, rollback_lengths, rollback_of, rolled_back, session_ended, statement, system, system_done, unless_refused}
 use Rattle.tt_model.specs.StepLaws.{CopiesAndLinesAreApart, DifferInCopies}
 use Rattle.tt_model.specs.Meant.{meant}
 use Rattle.tt_model.proofs.LineRelation.{is_checkpoint}
@@ -29,13 +29,13 @@ use Rattle.tt_model.proofs.WorksApart.{works-apart}
 use Rattle.tt_model.proofs.MeantApart.{aside, backup_place-aside, kind-aside, meant-aside, refusal-aside}
 
 -- Some stale pages, and this checkpoint under way, stand in the place of those of a state.
-abbrev IsAside : Option Begun → State → State → Type 0
+abbrev IsAside : Option Underway → State → State → Type 0
 IsAside u s other = (stale : ℕ → ℕ → Bool) × (other ≡ aside stale u s)
 
-abbrev AnswersAside : Option Begun → Answered → Answered → Type 0
+abbrev AnswersAside : Option Underway → Answered → Answered → Type 0
 AnswersAside u a other = (other.0 ≡ a.0) × IsAside u (a.1) (other.1)
 
-module _ (u : Option Begun) where
+module _ (u : Option Underway) where
   -- What goes for each state aside goes for another that is one.
   aside_then : (f : State → State) (s other : State) → ((stale : ℕ → ℕ → Bool) → IsAside u (f s) (f (aside stale u s))) → IsAside u s other → IsAside u (f s) (f other)
   aside_then f s other h (stale, is) = subst (λ (x : State). IsAside u (f s) (f x)) (sym is) (h stale)
@@ -80,14 +80,14 @@ module _ (u : Option Begun) where
   -- edits that aren't none, of the own transaction or the next one
   abbrev made_for : ℕ → Option ℕ → List CellEdit → State → Answered
   made_for session o edits s =
-      unless_refused (option_or (no_number_for o s) (no_place (map edit_length edits) s)) (Changed (length edits), made_in session (number_for o s) edits s) s
+      unless_refused (option_or (no_number_for o s) (no_position (map edit_length edits) s)) (Changed (length edits), made_in session (number_for o s) edits s) s
 
   aside_made_for : (session : ℕ) (o : Option ℕ) (edits : List CellEdit) (stale : ℕ → ℕ → Bool) (s : State) → AnswersAside u (made_for session o edits s) (made_for session o edits (aside stale u s))
   aside_made_for session None edits stale s =
-      aside_unless (option_or (no_number_for None s) (no_place (map edit_length edits) s)) (Changed (length edits)) (made_in session (next s) edits s) (made_in session (next s) edits (aside stale u s)) s stale
+      aside_unless (option_or (no_number_for None s) (no_position (map edit_length edits) s)) (Changed (length edits)) (made_in session (next s) edits s) (made_in session (next s) edits (aside stale u s)) s stale
       (aside_made_in session (next s) edits stale s)
   aside_made_for session (Some t) edits stale s =
-      aside_unless (option_or None (no_place (map edit_length edits) s)) (Changed (length edits)) (made_in session t edits s) (made_in session t edits (aside stale u s)) s stale
+      aside_unless (option_or None (no_position (map edit_length edits) s)) (Changed (length edits)) (made_in session t edits s) (made_in session t edits (aside stale u s)) s stale
       (aside_made_in session t edits stale s)
 
   aside_made : (session : ℕ) (edits : List CellEdit) (stale : ℕ → ℕ → Bool) (s : State) → AnswersAside u (made session edits s) (made session edits (aside stale u s))
@@ -99,8 +99,8 @@ module _ (u : Option Begun) where
   aside_statement session (Gives rows) stale s = (refl, (stale, refl))
   aside_statement session (Makes edits) stale s = aside_made session edits stale s
 
-  aside_settled : (session : ℕ) (s other : State) → IsAside u s other → IsAside u (settled session s) (settled session other)
-  aside_settled session s other h = aside_then (settled session) s other (λ stale. (stale, refl)) h
+  aside_settled : (session : ℕ) (s other : State) → IsAside u s other → IsAside u (session_ended session s) (session_ended session other)
+  aside_settled session s other h = aside_then (session_ended session) s other (λ stale. (stale, refl)) h
 
   aside_commit : (session : ℕ) (o : Option ℕ) (stale : ℕ → ℕ → Bool) (s : State) → AnswersAside u (commit_of session o s) (commit_of session o (aside stale u s))
   aside_commit session None stale s =
@@ -109,7 +109,7 @@ module _ (u : Option Begun) where
       let c : Bool = is_durable session s in
       let mid : State = with_entry (Commit t) s in
       let other : State = with_entry (Commit t) (aside stale u s) in
-      aside_unless (no_place (end_length ∷ []) s) Done (settled session (forced_where c mid)) (settled session (forced_where c other)) s stale
+      aside_unless (no_position (end_length ∷ []) s) Done (session_ended session (forced_where c mid)) (session_ended session (forced_where c other)) s stale
       (aside_settled session (forced_where c mid) (forced_where c other) (aside_then (forced_where c) mid other (λ more. aside_where c more mid) (aside_entry (Commit t) stale s)))
 
   -- edits, and an entry behind them
@@ -120,7 +120,7 @@ module _ (u : Option Begun) where
   aside_rollback : (session : ℕ) (o : Option ℕ) (stale : ℕ → ℕ → Bool) (s : State) → AnswersAside u (rollback_of session o s) (rollback_of session o (aside stale u s))
   aside_rollback session None stale s = (refl, (stale, refl))
   aside_rollback session (Some t) stale s =
-      aside_unless (no_place (rollback_lengths t s) s) Done (settled session (rolled_back t s)) (settled session (rolled_back t (aside stale u s))) s stale
+      aside_unless (no_position (rollback_lengths t s) s) Done (session_ended session (rolled_back t s)) (session_ended session (rolled_back t (aside stale u s))) s stale
       (aside_settled session (rolled_back t s) (rolled_back t (aside stale u s)) (aside_behind t (reversals t s.entries) (Abort t) stale s))
 
   aside_system_done : (edits : List CellEdit) (stale : ℕ → ℕ → Bool) (s : State) → IsAside u (system_done edits s) (system_done edits (aside stale u s))
@@ -133,7 +133,7 @@ module _ (u : Option Begun) where
   aside_system : (m : Meant) (stale : ℕ → ℕ → Bool) (s : State) → AnswersAside u (system m s) (system m (aside stale u s))
   aside_system (Refuses r) stale s = (refl, (stale, refl))
   aside_system (Gives rows) stale s = (refl, (stale, refl))
-  aside_system (Makes edits) stale s = aside_unless (no_system_place edits s) Done (system_done edits s) (system_done edits (aside stale u s)) s stale (aside_system_done edits stale s)
+  aside_system (Makes edits) stale s = aside_unless (no_system_position edits s) Done (system_done edits s) (system_done edits (aside stale u s)) s stale (aside_system_done edits stale s)
 
   aside_open : (session : ℕ) (name : List ℕ) (o : Option PlacedRow) (stale : ℕ → ℕ → Bool) (s : State) → AnswersAside u (open_at session name o s) (open_at session name o (aside stale u s))
   aside_open session name None stale s = (refl, (stale, refl))
@@ -148,7 +148,7 @@ module _ (u : Option Begun) where
   aside_given : (session : ℕ) (o : Option Reader) (n : ℕ) (stale : ℕ → ℕ → Bool) (s : State) → AnswersAside u (given session o n s) (given session o n (aside stale u s))
   aside_given session None n stale s = (refl, (stale, refl))
   aside_given session (Some r) n stale s =
-      aside_unless (no_skip (next_place_of r n s)) ((given_to session r n s).0) ((given_to session r n s).1) ((given_to session r n (aside stale u s)).1) s stale (stale, refl)
+      aside_unless (no_skip (next_read_of r n s)) ((given_to session r n s).0) ((given_to session r n s).1) ((given_to session r n (aside stale u s)).1) s stale (stale, refl)
 
   aside_closed : (session : ℕ) (o : Option Reader) (stale : ℕ → ℕ → Bool) (s : State) → AnswersAside u (closed session o s) (closed session o (aside stale u s))
   aside_closed session None stale s = (refl, (stale, refl))
@@ -178,12 +178,12 @@ module _ (u : Option Begun) where
 
   aside_extended : (set : ℕ) (o : Option SetStanding) (edits : List CellEdit) (stale : ℕ → ℕ → Bool) (s : State) → IsAside u (extended_with set o edits s) (extended_with set o edits (aside stale u s))
   aside_extended set None edits stale s = aside_set set None edits stale s
-  aside_extended set (Some (Sound b)) edits stale s = aside_set set (extended_now (Some (Sound b)) s) edits stale s
-  aside_extended set (Some Unsound) edits stale s = aside_set set (Some Unsound) edits stale s
+  aside_extended set (Some (Readable b)) edits stale s = aside_set set (extended_now (Some (Readable b)) s) edits stale s
+  aside_extended set (Some Unreadable) edits stale s = aside_set set (Some Unreadable) edits stale s
 
   aside_backed_up : (set : ℕ) (kind : BackupKind) (stale : ℕ → ℕ → Bool) (s : State) → AnswersAside u (backed_up set kind s) (backed_up set kind (aside stale u s))
-  aside_backed_up set Full stale s = (refl, aside_with_set set (Some (Sound (full_now s))) stale s)
-  aside_backed_up set FullEnable stale s = (refl, aside_set set (Some (Sound (full_now s))) (set_edit (row_of_set set s) set (write_position s) ∷ []) stale s)
+  aside_backed_up set Full stale s = (refl, aside_with_set set (Some (Readable (full_now s))) stale s)
+  aside_backed_up set FullEnable stale s = (refl, aside_set set (Some (Readable (full_now s))) (set_edit (row_of_set set s) set (write_position s) ∷ []) stale s)
   aside_backed_up set Incremental stale s = (refl, aside_extended set (s.sets set) (set_edit (row_of_set set s) set (write_position s) ∷ []) stale s)
   aside_backed_up set Stop stale s = (refl, aside_stop (row_of_set set s) stale s)
   aside_backed_up set IncrOrFull stale s = (refl, (stale, refl))
@@ -194,10 +194,10 @@ module _ (u : Option Begun) where
 
   aside_backup_kind : (session set : ℕ) (kind : BackupKind) (stale : ℕ → ℕ → Bool) (s : State) → AnswersAside u (backup_kind session set kind s) (backup_kind session set kind (aside stale u s))
   aside_backup_kind session set kind stale s =
-      let is : option_or (backup_refusal session s set kind) (backup_place set kind s) ≡ option_or (backup_refusal session (aside stale u s) set kind) (backup_place set kind (aside stale u s))
+      let is : option_or (backup_refusal session s set kind) (backup_position set kind s) ≡ option_or (backup_refusal session (aside stale u s) set kind) (backup_position set kind (aside stale u s))
       = sym (ap₂ option_or (refusal-aside session set kind stale u s) (backup_place-aside set kind stale u s)) in
       subst (λ o. AnswersAside u (backup_kind session set kind s) (unless_refused o (backed_up set kind (aside stale u s)) (aside stale u s))) is
-      (aside_answered (option_or (backup_refusal session s set kind) (backup_place set kind s)) (backed_up set kind s) (backed_up set kind (aside stale u s)) stale s (aside_backed_up set kind stale s))
+      (aside_answered (option_or (backup_refusal session s set kind) (backup_position set kind s)) (backed_up set kind s) (backed_up set kind (aside stale u s)) stale s (aside_backed_up set kind stale s))
 
   aside_backup : (session set : ℕ) (kind : BackupKind) (stale : ℕ → ℕ → Bool) (s : State) →
       AnswersAside u (backup_kind session set (kind_done kind set s) s) (backup_kind session set (kind_done kind set (aside stale u s)) (aside stale u s))
@@ -249,32 +249,32 @@ module _ (u : Option Begun) where
 -- ---- with a checkpoint under way
 
 -- It goes on with fewer pages left.
-abbrev pub going_on : Begun → List ℕ → Option Begun
+abbrev pub going_on : Underway → List ℕ → Option Underway
 going_on b left = Some (record b { left = left })
 
-holds-going_on : (b : Begun) (left : List ℕ) (stale : ℕ → ℕ → Bool) (s : State) → s.underway ≡ Some b → holds (aside stale (going_on b left) s) ≡ holds s
-holds-going_on b left stale s is = ap (λ (o : Option Begun). holds (aside stale o s)) (sym is)
+holds-going_on : (b : Underway) (left : List ℕ) (stale : ℕ → ℕ → Bool) (s : State) → s.underway ≡ Some b → holds (aside stale (going_on b left) s) ≡ holds s
+holds-going_on b left stale s is = ap (λ (o : Option Underway). holds (aside stale o s)) (sym is)
 
 -- A line that begins a checkpoint is refused, with the number of the one under way.
-refused_begin : (b : Begun) (left : List ℕ) (stale : ℕ → ℕ → Bool) (s : State) → s.underway ≡ Some b → AnswersAside (going_on b left) (checkpoint_line s) (checkpoint_line (aside stale (going_on b left) s))
+refused_begin : (b : Underway) (left : List ℕ) (stale : ℕ → ℕ → Bool) (s : State) → s.underway ≡ Some b → AnswersAside (going_on b left) (checkpoint_line s) (checkpoint_line (aside stale (going_on b left) s))
 refused_begin b left stale s is =
-    subst (λ (o : Option Begun). AnswersAside (going_on b left) (unless_refused (option_or (option_map (λ (x : Begun). CkptOpen x.number) o) (no_checkpoint_number s)) (begun_reply s, begin_checkpoint s) s)
+    subst (λ (o : Option Underway). AnswersAside (going_on b left) (unless_refused (option_or (option_map (λ (x : Underway). CkptOpen x.number) o) (no_checkpoint_number s)) (begun_reply s, begin_checkpoint s) s)
     (checkpoint_line (aside stale (going_on b left) s))) (sym is) (refl, (stale, refl))
 
-refused_blocking : (b : Begun) (left : List ℕ) (stale : ℕ → ℕ → Bool) (s : State) → s.underway ≡ Some b → AnswersAside (going_on b left) (blocking_line s) (blocking_line (aside stale (going_on b left) s))
+refused_blocking : (b : Underway) (left : List ℕ) (stale : ℕ → ℕ → Bool) (s : State) → s.underway ≡ Some b → AnswersAside (going_on b left) (blocking_line s) (blocking_line (aside stale (going_on b left) s))
 refused_blocking b left stale s is =
-    subst (λ (o : Option Begun). AnswersAside (going_on b left)
-    (unless_refused (option_or (option_map (λ (x : Begun). CkptOpen x.number) o) (option_or (least_open (live_in s)) (no_checkpoint_number s))) (begun_reply s, with_completion (with_all_copies (begin_checkpoint s))) s)
+    subst (λ (o : Option Underway). AnswersAside (going_on b left)
+    (unless_refused (option_or (option_map (λ (x : Underway). CkptOpen x.number) o) (option_or (least_open (live_in s)) (no_checkpoint_number s))) (begun_reply s, with_completion (with_all_copies (begin_checkpoint s))) s)
     (blocking_line (aside stale (going_on b left) s))) (sym is) (refl, (stale, refl))
 
-command-aside : (session : ℕ) (command : Command) (b : Begun) (left : List ℕ) (stale : ℕ → ℕ → Bool) (s : State) → s.underway ≡ Some b →
+command-aside : (session : ℕ) (command : Command) (b : Underway) (left : List ℕ) (stale : ℕ → ℕ → Bool) (s : State) → s.underway ≡ Some b →
     AnswersAside (going_on b left) (line session command s) (line session command (aside stale (going_on b left) s))
 unfolding line
 command-aside session Ckpt b left stale s is = refused_begin b left stale s is
 command-aside session CkptBlocking b left stale s is = refused_blocking b left stale s is
 command-aside session command b left stale s is = line-aside (going_on b left) session command stale s refl (holds-going_on b left stale s is)
 
-differs : (u : Option Begun) (s other : State) → IsAside u s other → DifferInCopies s other
+differs : (u : Option Underway) (s other : State) → IsAside u s other → DifferInCopies s other
 differs u s other (stale, is) = subst (DifferInCopies s) (sym is) refl
 
 -- ---- copies
@@ -283,7 +283,7 @@ record IsApart (session : ℕ) (command : Command) (s other : State) : Type 0 wh
   reply : (line session command other).0 ≡ (line session command s).0
   state : DifferInCopies ((line session command s).1) ((line session command other).1)
 
-copied_apart : (session : ℕ) (command : Command) (n : ℕ) (s : State) (o : Option Begun) → s.underway ≡ o → IsApart session command s (copied n o s)
+copied_apart : (session : ℕ) (command : Command) (n : ℕ) (s : State) (o : Option Underway) → s.underway ≡ o → IsApart session command s (copied n o s)
 copied_apart session command n s None is = record { reply = refl; state = refl }
 copied_apart session command n s (Some b) is =
     let left : List ℕ = drop n b.left in

@@ -6,12 +6,12 @@ use Rattle.tt_record.specs.declared.entry.Entry.{Entry}
 use Rattle.tt_record.specs.declared.entry.Entry.TheVariants.{Change, Commit, Abort, Mark, Switch}
 use Rattle.tt_model.specs.Trail.{Trail}
 use Rattle.tt_model.specs.Live.{live, live_after, is_live, with_number}
-use Rattle.tt_model.specs.Found.{Found}
+use Rattle.tt_model.specs.Opened.{Opened}
 use Rattle.tt_model.specs.State.{State, live_in, with_entry, with_edit, with_edits, all_forced, reversals}
 use Rattle.tt_model.specs.declared.definition.CellEdit.{CellEdit}
 use Rattle.tt_model.specs.Sound.{KeepsCatalog, IsSound}
 use Rattle.tt_model.specs.Step.{rolled_back}
-use Rattle.tt_model.specs.Run.{has_place, ended_one, roll_all, ended}
+use Rattle.tt_model.specs.Run.{has_position, ended_one, roll_all, ended}
 use Rattle.tt_model.proofs.SteadyLemmas.{list_any-with_number, is_in-without}
 use Rattle.tt_model.proofs.CatalogLemmas.{catalog-rolled_back}
 use Rattle.tt_model.proofs.SoundLemmas.{fewer, live-marked}
@@ -90,7 +90,7 @@ sound-ended_one t s h l = record {
         live-rolled_back u t s (kept.1) ((h.owned).live session u (kept.0));
     once = λ a b u k m. (h.owned).once a b u ((kept_own t u (s.own a) k).0) ((kept_own t u (s.own b) m).0);
   };
-  catalog = subst (λ (f : Found). KeepsCatalog f.cells ((rolled_back t s).entries)) (sym (found-rolled_back t s)) (catalog-rolled_back t (reversals t s.entries) s h.catalog);
+  catalog = subst (λ (f : Opened). KeepsCatalog f.cells ((rolled_back t s).entries)) (sym (found-rolled_back t s)) (catalog-rolled_back t (reversals t s.entries) s h.catalog);
 }
 
 -- ---- all of them
@@ -112,7 +112,7 @@ sound-roll_all [] s h a l = sound-all_forced s h
 sound-roll_all (t ∷ ts) s h a l =
     roll_step s (roll_all ts (ended_one t s)) h
     (sound-roll_all ts (ended_one t s) (sound-ended_one t s h (l t (or_left (nat_eq t t) (list_any (nat_eq t) ts) (eq-eqb t t refl)))) (a.1) (others_live t ts s a l))
-    (has_place t s)
+    (has_position t s)
 
 pub live_in_entries : (s : State) → IsSound s → live_in s ≡ live s.entries
 live_in_entries s h = live-marked s.entries s.found.entries (h.entries).marked
@@ -161,7 +161,7 @@ left-roll_all : (u : ℕ) (ts : List ℕ) (s : State) → (roll_all ts s).0 ≡ 
     (is_live u s.entries ≡ true) × (list_any (nat_eq u) ts ≡ false)
 unfolding all_forced
 left-roll_all u [] s done l = (l, refl)
-left-roll_all u (t ∷ ts) s done l = left_step u t ts s (roll_all ts (ended_one t s)) (λ d k. left-roll_all u ts (ended_one t s) d k) (has_place t s) done l
+left-roll_all u (t ∷ ts) s done l = left_step u t ts s (roll_all ts (ended_one t s)) (λ d k. left-roll_all u ts (ended_one t s) d k) (has_position t s) done l
 
 -- Where it was done to its end, no transaction is live.
 pub none-ended : (s : State) (u : ℕ) → IsSound s → (ended s).0 ≡ true → is_live u (((ended s).1).entries) ≡ false

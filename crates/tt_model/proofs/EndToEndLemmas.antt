@@ -3,11 +3,11 @@ use Rattle.std.proofs.Common.{◌≡◌, ◌≤◌, ◌+◌, inl, inr, ℕ, Bool
 use Rattle.tt_value.specs.declared.position.Position.{Position}
 use Rattle.tt_record.specs.declared.entry.Entry.{Entry}
 use Rattle.tt_record.specs.declared.entry.Entry.TheVariants.{Mark}
-use Rattle.tt_record.specs.Entries.{length_of}
-use Rattle.tt_record.specs.Places.{end_of, next_place, position}
+use Rattle.tt_record.specs.Entry.{length_of}
+use Rattle.tt_record.specs.Place.{end_of, next_position, position}
 use Rattle.tt_set.specs.declared.settings.Settings.{Settings}
 use Rattle.tt_model.specs.Trail.{Placed, Trail, position_le, trail_end}
-use Rattle.tt_model.specs.Found.{Found}
+use Rattle.tt_model.specs.Opened.{Opened}
 use Rattle.tt_model.specs.State.{State, placed, write_position, with_entry, all_forced}
 use Rattle.tt_model.specs.Run.{begun, opened}
 use Rattle.tt_model.specs.StepLaws.{StandsBehind, LieEndToEnd, NewLieEndToEnd, EntriesLieEndToEnd, StepsGoOn}
@@ -25,7 +25,7 @@ stands : (fits : Bool) (end : Position) → StandsBehind end (if fits then end e
 stands true end = inl refl
 stands false end = inr refl
 
-next_stands : (end : Position) (n size : ℕ) → StandsBehind end (next_place end n size)
+next_stands : (end : Position) (n size : ℕ) → StandsBehind end (next_position end n size)
 next_stands end n size = stands (nat_le (end.offset + n) size) end
 
 abbrev KeepsEndToEnd : State → State → Type 0
@@ -43,13 +43,13 @@ unfolding all_forced
 keeps_force s h = h
 
 keeps_other : (s after : State) → SameTrail s after → KeepsEndToEnd s after
-keeps_other s after x h = subst (λ (f : Found). LieEndToEnd f.end after.entries) (sym x.found) (subst (LieEndToEnd s.found.end) (sym x.entries) h)
+keeps_other s after x h = subst (λ (f : Opened). LieEndToEnd f.end after.entries) (sym x.found) (subst (LieEndToEnd s.found.end) (sym x.entries) h)
 
 lies_so : (opened : Position) (newer older : Trail) (e : Placed) → LieEndToEnd opened (newer ++ e ∷ older) → StandsBehind (trail_end opened older) e.at
 lies_so opened [] older e h = h.0
 lies_so opened (x ∷ newer) older e h = lies_so opened newer older e (h.1)
 
-begun_so : (settings : Settings) (found : Found) (files : ℕ → Bool) (sets : _) → NewLieEndToEnd (begun settings found files sets)
+begun_so : (settings : Settings) (found : Opened) (files : ℕ → Bool) (sets : _) → NewLieEndToEnd (begun settings found files sets)
 unfolding begun
 begun_so settings found files sets = keeps_entry Mark (opened settings found files sets) tt
 
@@ -83,7 +83,7 @@ later_same s after is = record {
 }
 
 later_other : (s after : State) → SameTrail s after → EndsLater s after
-later_other s after x = later_same s after (ap₂ (λ (f : Found) (es : Trail). trail_end f.end es) x.found x.entries)
+later_other s after x = later_same s after (ap₂ (λ (f : Opened) (es : Trail). trail_end f.end es) x.found x.entries)
 
 later_force : (s : State) → EndsLater s (all_forced s)
 unfolding all_forced

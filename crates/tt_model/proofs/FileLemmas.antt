@@ -11,10 +11,10 @@ use Rattle.tt_parse.specs.declared.command.Command.TheVariants.{Ckpt, CkptBlocki
 use Rattle.tt_value.specs.declared.refusal.Refusal.TheVariants.{CkptOpen}
 use Rattle.tt_record.specs.declared.entry.Entry.{Entry}
 use Rattle.tt_model.specs.Live.{numbers_from}
-use Rattle.tt_model.specs.State.{State, Begun, at_one, placed, next, live_in, with_entry, all_forced}
+use Rattle.tt_model.specs.State.{State, Underway, at_one, placed, next, live_in, with_entry, all_forced}
 use Rattle.tt_model.specs.Checkpoint.{begin_checkpoint, begun_in, copied, with_copies, with_all_copies, complete_where_due, completed, with_completion, files_kept, stale_pages, other_file}
 use Rattle.tt_model.specs.Step.{Step, Answered, Answers, WantsMemory, answer, line, unless_refused, is_refused, checkpoint_open, no_checkpoint_number, least_open, begun_reply, completion_after}
-use Rattle.tt_model.specs.Run.{has_place, ended_one, roll_all, ended}
+use Rattle.tt_model.specs.Run.{has_position, ended_one, roll_all, ended}
 use Rattle.tt_model.proofs.LineRelation.{is_checkpoint, line-through, rolled-through}
 use Rattle.tt_model.specs.WholeRuns.{is_blocking, completes, LogFilesAreKept}
 
@@ -56,7 +56,7 @@ adds-line session command s n =
 abbrev pub AreKept : State → Type 0
 AreKept s = (n : ℕ) → s.files n ≡ files_kept s n
 
-kept-completed : (b : Begun) (s : State) → AreKept (completed b s)
+kept-completed : (b : Underway) (s : State) → AreKept (completed b s)
 unfolding completed all_forced
 kept-completed b s n = refl
 
@@ -78,7 +78,7 @@ none_left s =
     let count : length (numbers_from s.pages 0) ≡ s.pages = count_from s.pages 0 in
     drop_all s.pages (stale_pages (other_file s) s) (omega (arith, few, count))
 
-kept_where_none : (b : Begun) (s : State) (c : Bool) → c ≡ true → AreKept (cond c (completed b s) s)
+kept_where_none : (b : Underway) (s : State) (c : Bool) → c ≡ true → AreKept (cond c (completed b s) s)
 kept_where_none b s true h = kept-completed b s
 kept_where_none b s false h = absurd (true≢false (sym h))
 
@@ -163,18 +163,18 @@ never : (c : Bool) → (c && false) ≡ false
 never true = refl
 never false = refl
 
-goes-refused : (command : Command) (b : Begun) (o : Option Begun) (more : Option Refusal) (reply : Reply) (after s : State) → o ≡ Some b →
-    let a : Answered = unless_refused (option_or (option_map (λ (x : Begun). CkptOpen x.number) o) more) (reply, after) s in Goes (Ok command) (a.0) s (a.1)
+goes-refused : (command : Command) (b : Underway) (o : Option Underway) (more : Option Refusal) (reply : Reply) (after s : State) → o ≡ Some b →
+    let a : Answered = unless_refused (option_or (option_map (λ (x : Underway). CkptOpen x.number) o) more) (reply, after) s in Goes (Ok command) (a.0) s (a.1)
 goes-refused command b None more reply after s e = let no : ⊥ = cc in absurd no
 goes-refused command b (Some x) more reply after s e = record { adds = adds-same s; open_one = never (is_blocking (Ok command)) }
 
-goes-line : (session : ℕ) (command : Command) (b : Begun) (s : State) → s.underway ≡ Some b → Goes (Ok command) ((line session command s).0) s ((line session command s).1)
+goes-line : (session : ℕ) (command : Command) (b : Underway) (s : State) → s.underway ≡ Some b → Goes (Ok command) ((line session command s).0) s ((line session command s).1)
 unfolding line
 goes-line session CkptBlocking b s u = goes-refused CkptBlocking b s.underway (option_or (least_open (live_in s)) (no_checkpoint_number s)) _ _ s u
 goes-line session Ckpt b s u = goes-refused Ckpt b s.underway (no_checkpoint_number s) _ _ s u
 goes-line session command b s u = record { adds = adds-line session command s refl; open_one = refl }
 
-goes-answers : (session : ℕ) (what : Result Command Refusal) (b : Begun) (s : State) (reply : Reply) (after : State) → s.underway ≡ Some b → Answers session what s reply after → Goes what reply s after
+goes-answers : (session : ℕ) (what : Result Command Refusal) (b : Underway) (s : State) (reply : Reply) (after : State) → s.underway ≡ Some b → Answers session what s reply after → Goes what reply s after
 goes-answers session (Ok command) b s reply after u (inl t) =
     subst (λ (r : Reply). Goes (Ok command) r s after) (sym (t.0)) (subst (Goes (Ok command) ((line session command s).0) s) (sym (t.1)) (goes-line session command b s u))
 goes-answers session (Err r) b s reply after u (inl t) = record { adds = subst (Adds s) (sym (t.1)) (adds-same s); open_one = refl }
@@ -187,32 +187,32 @@ pub record RoundLeaves (c : Bool) (s after : State) : Type 0 where
   pub kept : c ≡ true → AreKept after
   pub added : c ≡ false → AddsFiles s after
 
-abbrev completes_with : Option Begun → Option Begun → Result Command Refusal → Reply → Bool
+abbrev completes_with : Option Underway → Option Underway → Result Command Refusal → Reply → Bool
 completes_with before after what reply = (is_some before && is_none after) || (is_blocking what && not (is_refused reply))
 
-due_step : (b : Begun) (what : Result Command Refusal) (reply : Reply) (s mid : State) → AddsFiles s mid → mid.underway ≡ Some b → (is_blocking what && not (is_refused reply)) ≡ false → (c : Bool) →
+due_step : (b : Underway) (what : Result Command Refusal) (reply : Reply) (s mid : State) → AddsFiles s mid → mid.underway ≡ Some b → (is_blocking what && not (is_refused reply)) ≡ false → (c : Bool) →
     RoundLeaves (completes_with (Some b) ((cond c (completed b mid) mid).underway) what reply) s (cond c (completed b mid) mid)
 unfolding completed
 due_step b what reply s mid a u o true = record { kept = λ h. kept-completed b mid; added = λ h. absurd (true≢false h) }
 due_step b what reply s mid a u o false =
-    let none : completes_with (Some b) mid.underway what reply ≡ false = ap (λ (x : Option Begun). (true && is_none x) || (is_blocking what && not (is_refused reply))) u ∙ o in
+    let none : completes_with (Some b) mid.underway what reply ≡ false = ap (λ (x : Option Underway). (true && is_none x) || (is_blocking what && not (is_refused reply))) u ∙ o in
     record { kept = λ h. absurd (both_ways (completes_with (Some b) mid.underway what reply) none h); added = λ h. a }
 
-copied_under : (n : ℕ) (b : Begun) (s mid : State) → Adds (copied n (Some b) s) mid → AddsFiles s mid
+copied_under : (n : ℕ) (b : Underway) (s mid : State) → Adds (copied n (Some b) s) mid → AddsFiles s mid
 copied_under n b s mid a = a.files
 
 -- A round that begins with this under way.
-round-with : (s : State) (session : ℕ) (what : Result Command Refusal) (reply : Reply) (mid : State) (o : Option Begun) →
+round-with : (s : State) (session : ℕ) (what : Result Command Refusal) (reply : Reply) (mid : State) (o : Option Underway) →
     Answers session what (copied s.settings.ckpt_pages o s) reply mid → RoundLeaves (completes_with o ((completion_after o mid).underway) what reply) s (completion_after o mid)
 unfolding with_completion
 round-with s session what reply mid None a =
     let leaves : Leaves what reply s mid = leaves-answers session what s reply mid a in record { kept = leaves.kept; added = leaves.added }
 round-with s session what reply mid (Some b) a =
     let n : ℕ = s.settings.ckpt_pages in
-    let left : Begun = record b { left = drop n b.left } in
+    let left : Underway = record b { left = drop n b.left } in
     let goes : Goes what reply (copied n (Some b) s) mid = goes-answers session what left (copied n (Some b) s) reply mid refl a in
     let under : mid.underway ≡ Some left = goes.adds.underway in
-    subst (λ (x : Option Begun). RoundLeaves (completes_with (Some b) ((complete_where_due x mid).underway) what reply) s (complete_where_due x mid)) (sym under)
+    subst (λ (x : Option Underway). RoundLeaves (completes_with (Some b) ((complete_where_due x mid).underway) what reply) s (complete_where_due x mid)) (sym under)
     (due_step left what reply s mid (copied_under n b s mid goes.adds) under goes.open_one (length left.left == 0))
 
 round-leaves : (s : State) (session : ℕ) (what : Result Command Refusal) (reply : Reply) (after : State) → Step s session what reply after → RoundLeaves (completes s what reply after) s after
@@ -233,7 +233,7 @@ roll_step s next a false = λ n h. h
 
 added-roll_all : (ts : List ℕ) (s : State) → AddsFiles s ((roll_all ts s).1)
 added-roll_all [] s = (adds-all_forced s).files
-added-roll_all (t ∷ ts) s = roll_step s (roll_all ts (ended_one t s)) (λ n h. added-roll_all ts (ended_one t s) n (ended_files t s n h)) (has_place t s)
+added-roll_all (t ∷ ts) s = roll_step s (roll_all ts (ended_one t s)) (λ n h. added-roll_all ts (ended_one t s) n (ended_files t s n h)) (has_position t s)
 
 added-ended : (s : State) → AddsFiles s ((ended s).1)
 unfolding ended

@@ -3,11 +3,11 @@ use Rattle.std.proofs.Common.{◌≡◌, ◌∙◌, ℕ, Bool, true, false, not,
 use Rattle.std.specs.Prelude.{nat_lt, if◌then◌else◌}
 use Rattle.std.specs.Option.{option_or}
 use Rattle.tt_value.specs.declared.position.Position.{Position}
-use Rattle.tt_record.specs.Places.{end_of, next_place}
+use Rattle.tt_record.specs.Place.{end_of, next_position}
 use Rattle.tt_set.specs.declared.settings.Settings.{Settings}
-use Rattle.tt_model.specs.Run.{ended_one, has_place}
+use Rattle.tt_model.specs.Run.{ended_one, has_position}
 use Rattle.tt_model.proofs.WorkLemmas.{edits_then, rolled_same}
-use Rattle.tt_value.specs.Words.{big_endian}
+use Rattle.tt_value.specs.BigEndian.{big_endian}
 use Rattle.tt_value.specs.declared.refusal.Refusal.{Refusal}
 use Rattle.tt_value.specs.declared.refusal.Refusal.TheVariants.{LogOut}
 use Rattle.tt_value.specs.declared.value.Cell.{Cell}
@@ -16,14 +16,14 @@ use Rattle.tt_parse.specs.declared.command.BackupKind.{BackupKind}
 use Rattle.tt_parse.specs.declared.command.BackupKind.TheVariants.{Full, FullEnable, Incremental, IncrOrFull, Stop}
 use Rattle.tt_record.specs.declared.entry.Entry.{Entry}
 use Rattle.tt_record.specs.declared.entry.Entry.TheVariants.{Change, Commit, Abort}
-use Rattle.tt_record.specs.Entries.{length_of}
+use Rattle.tt_record.specs.Entry.{length_of}
 use Rattle.tt_model.specs.Meaning.{Meant, Refuses, Gives, Makes, refused_if}
 use Rattle.tt_model.specs.Tables.{PlacedRow}
 use Rattle.tt_model.specs.Backups.{backup_refusal, kind_done, row_of_set, set_edit}
 use Rattle.tt_model.specs.System.{deletes}
 use Rattle.tt_model.specs.State.{State, all_forced, with_entry, lengths_fit, live_in, next, place_for, reversals, with_edit, write_position}
 use Rattle.tt_model.specs.declared.definition.CellEdit.{CellEdit}
-use Rattle.tt_model.specs.Step.{backup_place, checkpoint_open, edit_length, end_length, is_durable, least_open, no_checkpoint_number, no_number, no_number_for, no_place, no_system_place, number_for, rollback_lengths, rolled_back}
+use Rattle.tt_model.specs.Step.{backup_position, checkpoint_open, edit_length, end_length, is_durable, least_open, no_checkpoint_number, no_number, no_number_for, no_position, no_system_position, number_for, rollback_lengths, rolled_back}
 use Rattle.tt_model.specs.Works.{AllFit, EndFits, Fits, Work, with_entries, work_behind, work_of_all, WorksFit, changes, force_where, no_work, rolled_entries, row_work, stop_works, system_work, unless_refused, work_of_blocking, work_of_commit, work_of_edits, work_of_rollback, work_of_statement, work_of_system, works_of, works_of_backup, works_of_kind, works_unless}
 
 change_length : (t p : ℕ) (b a : Cell) → length_of (Change t p b a) ≡ length_of (Change 1 0 b a)
@@ -56,7 +56,7 @@ fits_where : (b : Bool) → refused_if (not b) LogOut ≡ None → b ≡ true
 fits_where true is = refl
 fits_where false is = cc
 
-placed_so : (ns : List ℕ) (s : State) → no_place ns s ≡ None → lengths_fit s.settings.log_file_size (write_position s) ns ≡ true
+placed_so : (ns : List ℕ) (s : State) → no_position ns s ≡ None → lengths_fit s.settings.log_file_size (write_position s) ns ≡ true
 placed_so ns s is = fits_where (lengths_fit s.settings.log_file_size (write_position s) ns) is
 
 last_none : (a b : Option Refusal) → option_or a b ≡ None → b ≡ None
@@ -67,7 +67,7 @@ unless_fits : (o : Option Refusal) (w : Work) (s : State) → (o ≡ None → Fi
 unless_fits None w s fits = fits refl
 unless_fits (Some r) w s fits = refl
 
-by_lengths : (w : Work) (ns : List ℕ) (s : State) → map length_of w.entries ≡ ns → no_place ns s ≡ None → Fits w s
+by_lengths : (w : Work) (ns : List ℕ) (s : State) → map length_of w.entries ≡ ns → no_position ns s ≡ None → Fits w s
 by_lengths w ns s is none = ap (λ (ms : List ℕ). lengths_fit s.settings.log_file_size (write_position s) ms) is ∙ placed_so ns s none
 
 edits_fit : (session : ℕ) (edits : List CellEdit) (s : State) → Fits (work_of_edits session edits s) s
@@ -75,8 +75,8 @@ edits_fit session [] s = refl
 edits_fit session (e ∷ es) s =
     let t : ℕ = number_for (s.own session) s in
     let w : Work = record { entries = changes t (e ∷ es) s; force = false } in
-    unless_fits (option_or (no_number_for (s.own session) s) (no_place (map edit_length (e ∷ es)) s)) w s
-    (λ none. by_lengths w (map edit_length (e ∷ es)) s (lengths_are t (e ∷ es) s) (last_none (no_number_for (s.own session) s) (no_place (map edit_length (e ∷ es)) s) none))
+    unless_fits (option_or (no_number_for (s.own session) s) (no_position (map edit_length (e ∷ es)) s)) w s
+    (λ none. by_lengths w (map edit_length (e ∷ es)) s (lengths_are t (e ∷ es) s) (last_none (no_number_for (s.own session) s) (no_position (map edit_length (e ∷ es)) s) none))
 
 statement_fits : (session : ℕ) (m : Meant) (s : State) → Fits (work_of_statement session m s) s
 statement_fits session (Refuses r) s = refl
@@ -87,35 +87,35 @@ commit_fits : (session : ℕ) (o : Option ℕ) (s : State) → Fits (work_of_com
 commit_fits session None s = refl
 commit_fits session (Some t) s =
     let w : Work = record { entries = Commit t ∷ []; force = is_durable session s } in
-    unless_fits (no_place (end_length ∷ []) s) w s (λ none. by_lengths w (end_length ∷ []) s (ap (λ n. n ∷ []) (commit_length t)) none)
+    unless_fits (no_position (end_length ∷ []) s) w s (λ none. by_lengths w (end_length ∷ []) s (ap (λ n. n ∷ []) (commit_length t)) none)
 
 rollback_fits : (o : Option ℕ) (s : State) → Fits (work_of_rollback o s) s
 rollback_fits None s = refl
 rollback_fits (Some t) s =
     let w : Work = record { entries = rolled_entries t s; force = false } in
-    unless_fits (no_place (rollback_lengths t s) s) w s (λ none. by_lengths w (rollback_lengths t s) s (behind t (reversals t s.entries) (Abort t) s (abort_length t)) none)
+    unless_fits (no_position (rollback_lengths t s) s) w s (λ none. by_lengths w (rollback_lengths t s) s (behind t (reversals t s.entries) (Abort t) s (abort_length t)) none)
 
-system_work_fits : (edits : List CellEdit) (s : State) → no_system_place edits s ≡ None → Fits (system_work edits s) s
+system_work_fits : (edits : List CellEdit) (s : State) → no_system_position edits s ≡ None → Fits (system_work edits s) s
 system_work_fits edits s none =
     by_lengths (system_work edits s) (map edit_length edits ++ end_length ∷ []) s (behind (next s) edits (Commit (next s)) s (commit_length (next s)))
-    (last_none (no_number s) (no_place (map edit_length edits ++ end_length ∷ []) s) none)
+    (last_none (no_number s) (no_position (map edit_length edits ++ end_length ∷ []) s) none)
 
 system_fits : (m : Meant) (s : State) → Fits (work_of_system m s) s
 system_fits (Refuses r) s = refl
 system_fits (Gives rows) s = refl
-system_fits (Makes edits) s = unless_fits (no_system_place edits s) (system_work edits s) s (λ none. system_work_fits edits s none)
+system_fits (Makes edits) s = unless_fits (no_system_position edits s) (system_work edits s) s (λ none. system_work_fits edits s none)
 
 -- ---- backups
 
-row_fits : (set : ℕ) (s : State) → no_system_place (set_edit (row_of_set set s) set (write_position s) ∷ []) s ≡ None → Fits (row_work set s) (all_forced s)
+row_fits : (set : ℕ) (s : State) → no_system_position (set_edit (row_of_set set s) set (write_position s) ∷ []) s ≡ None → Fits (row_work set s) (all_forced s)
 unfolding all_forced
 row_fits set s none = system_work_fits (set_edit (row_of_set set s) set (write_position s) ∷ []) (all_forced s) none
 
-stop_fit : (o : Option PlacedRow) (s : State) → (elim o as (λ x. Option Refusal) [ None ↦ None | Some r ↦ no_system_place (deletes 6 r ∷ []) s ]) ≡ None → AllFit (stop_works s o) s
+stop_fit : (o : Option PlacedRow) (s : State) → (elim o as (λ x. Option Refusal) [ None ↦ None | Some r ↦ no_system_position (deletes 6 r ∷ []) s ]) ≡ None → AllFit (stop_works s o) s
 stop_fit None s none = tt
 stop_fit (Some r) s none = (system_work_fits (deletes 6 r ∷ []) s none, tt)
 
-backup_fit : (set : ℕ) (kind : BackupKind) (s : State) → backup_place set kind s ≡ None → AllFit (works_of_backup set kind s) s
+backup_fit : (set : ℕ) (kind : BackupKind) (s : State) → backup_position set kind s ≡ None → AllFit (works_of_backup set kind s) s
 backup_fit set Full s none = (refl, tt)
 backup_fit set FullEnable s none = (refl, (row_fits set s none, tt))
 backup_fit set Incremental s none = (refl, (row_fits set s none, tt))
@@ -128,8 +128,8 @@ works_fit_unless (Some r) ws s fit = tt
 
 kind_fits : (session set : ℕ) (kind : BackupKind) (s : State) → AllFit (works_of_kind session set kind s) s
 kind_fits session set kind s =
-    works_fit_unless (option_or (backup_refusal session s set kind) (backup_place set kind s)) (works_of_backup set kind s) s
-    (λ none. backup_fit set kind s (last_none (backup_refusal session s set kind) (backup_place set kind s) none))
+    works_fit_unless (option_or (backup_refusal session s set kind) (backup_position set kind s)) (works_of_backup set kind s) s
+    (λ none. backup_fit set kind s (last_none (backup_refusal session s set kind) (backup_position set kind s) none))
 
 blocking_fits : (s : State) → Fits (work_of_blocking s) s
 blocking_fits s = unless_fits (option_or (checkpoint_open s) (option_or (least_open (live_in s)) (no_checkpoint_number s))) (force_where true) s (λ none. refl)
@@ -177,7 +177,7 @@ fits_on (e ∷ es) s ns first rest = by (nat_lt at.file 1000000) first (λ h. fi
     size = s.settings.log_file_size
 
     at : Position
-    at = next_place (write_position s) (length_of e) size
+    at = next_position (write_position s) (length_of e) size
 
     by : (b : Bool) → (elim (if b then Some at else None) as (λ x. Bool) [ None ↦ false | Some p ↦ lengths_fit size (end_of p (length_of e)) (map length_of es) ]) ≡ true
         → (lengths_fit size (end_of at (length_of e)) (map length_of es) ≡ true → lengths_fit size (end_of at (length_of e)) (map length_of es ++ ns) ≡ true)
@@ -196,7 +196,7 @@ lengths_both (x ∷ xs) ys = ap (λ (ns : List ℕ). length_of x ∷ ns) (length
 
 roll_fits : (ts : List ℕ) (s : State) → Fits (work_of_all ts s) s
 roll_fits [] s = refl
-roll_fits (t ∷ ts) s = by (has_place t s) refl (roll_fits ts (ended_one t s))
+roll_fits (t ∷ ts) s = by (has_position t s) refl (roll_fits ts (ended_one t s))
   where
     size : ℕ
     size = s.settings.log_file_size
@@ -207,7 +207,7 @@ roll_fits (t ∷ ts) s = by (has_place t s) refl (roll_fits ts (ended_one t s))
     rest : Work
     rest = work_of_all ts (ended_one t s)
 
-    by : (c : Bool) → has_place t s ≡ c → lengths_fit (ended_one t s).settings.log_file_size (write_position (ended_one t s)) (map length_of rest.entries) ≡ true
+    by : (c : Bool) → has_position t s ≡ c → lengths_fit (ended_one t s).settings.log_file_size (write_position (ended_one t s)) (map length_of rest.entries) ≡ true
         → Fits (elim c as (λ x. Work) [ true ↦ work_behind rolled rest | false ↦ no_work ]) s
     by false is more = refl
     by true is more =

@@ -19,7 +19,7 @@ use Rattle.tt_model.specs.Holders.{value_at, values_at}
 use Rattle.tt_model.specs.Tables.{Table, column_named}
 use Rattle.tt_model.specs.Conditions.{column_at, is_column, is_text_type}
 use Rattle.tt_model.specs.Meaning.{refused_if, first_of, each_set, inserted_row, is_too_wide, is_type_of, kind_named, names_no_column, null_refusal, number_value, plus_value, range_refusal, set_refusal, set_values, sets_refusal, source_column, source_value, stored_value, takes_literal, takes_source, wide_refusal, with_column, with_values}
-use Rattle.tt_model.specs.Damages.{has_misfit, is_kept, is_misfit}
+use Rattle.tt_model.specs.Damage.{has_misfit, is_kept, is_misfit}
 use Rattle.tt_model.proofs.StatementLemmas.{each_none, first_none}
 use Rattle.tt_model.proofs.SystemLines.{not_refused}
 use Rattle.tt_model.proofs.TableLines.{not_none, not_not}

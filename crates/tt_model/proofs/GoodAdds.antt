@@ -4,9 +4,9 @@ use Rattle.std.proofs.lemmas.Bool.{eqb-true, eq-eqb, leb-false, and_from, both_w
 use Rattle.std.proofs.lemmas.Slice.Eq.{bytes_eq-Decides}
 use Rattle.std.specs.Prelude.{◌==◌, nat_le, not, bytes_eq, count_by, is_some, slice_get}
 use Rattle.std.specs.List.{list_any}
-use Rattle.tt_value.specs.Names.{is_name}
+use Rattle.tt_value.specs.Ident.{is_name}
 use Rattle.tt_value.specs.Same.{same_value}
-use Rattle.tt_value.specs.Orders.{text_of}
+use Rattle.tt_value.specs.Order.{text_of}
 use Rattle.tt_value.specs.declared.position.Position.{Position}
 use Rattle.tt_value.specs.declared.value.Value.{Value}
 use Rattle.tt_value.specs.declared.value.Value.TheVariants.{Text}
@@ -25,7 +25,7 @@ use Rattle.tt_model.specs.Backups.{row_of_set}
 use Rattle.tt_model.specs.Step.{system_done}
 use Rattle.tt_model.specs.Sound.{IsSound}
 use Rattle.tt_model.specs.Entries.{HasLogInRange, IsKept}
-use Rattle.tt_model.specs.Damages.{Bookmarks, Subscriptions, Sets, are_taken, column_tests, is_number_from, has_value_in, has_wrong_values}
+use Rattle.tt_model.specs.Damage.{Bookmarks, Subscriptions, Sets, are_taken, column_tests, is_number_from, has_value_in, has_wrong_values}
 use Rattle.tt_model.proofs.ConflictLemmas.{same_value-self}
 use Rattle.tt_model.proofs.IsolationLemmas.{full-below}
 use Rattle.tt_model.proofs.StatementLemmas.{unless-makes, makes_same, each_none}

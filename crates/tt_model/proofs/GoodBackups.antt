@@ -6,13 +6,13 @@ use Rattle.tt_value.specs.declared.refusal.Refusal.{Refusal}
 use Rattle.tt_value.specs.declared.refusal.Refusal.TheVariants.{SetThere, NoSet, NotIncremental, TooMany}
 use Rattle.tt_parse.specs.declared.command.BackupKind.{BackupKind}
 use Rattle.tt_parse.specs.declared.command.BackupKind.TheVariants.{Full, FullEnable, Incremental, IncrOrFull, Stop}
-use Rattle.tt_model.specs.Sets.{Sound, Unsound, SetStanding}
+use Rattle.tt_model.specs.Sets.{Readable, Unreadable, SetStanding}
 use Rattle.tt_model.specs.Tables.{PlacedRow}
 use Rattle.tt_model.specs.State.{State, write_position, all_forced}
 use Rattle.tt_model.specs.Meaning.{refused_if, first_of, no_room}
 use Rattle.tt_model.specs.System.{in_transaction, system_rows, deletes}
 use Rattle.tt_model.specs.Backups.{row_of_set, set_edit, full_now, extended_now, with_set, backup_refusal, first_row_refusal, is_not_incremental}
-use Rattle.tt_model.specs.Step.{system_done, backed_up, backup_place, backup_kind, unless_refused}
+use Rattle.tt_model.specs.Step.{system_done, backed_up, backup_position, backup_kind, unless_refused}
 use Rattle.tt_model.specs.Sound.{IsSound}
 use Rattle.tt_model.specs.Entries.{HasLogInRange}
 use Rattle.tt_model.proofs.StatementLemmas.{each_none}
@@ -47,8 +47,8 @@ few_enabled session set s h e =
 -- An incremental backup finds its row.
 never_without : (o : Option SetStanding) (s : State) → is_none o ≡ false → is_not_incremental None o s ≡ false → ⊥
 never_without None s a b = true≢false a
-never_without (Some (Sound x)) s a b = true≢false b
-never_without (Some Unsound) s a b = true≢false b
+never_without (Some (Readable x)) s a b = true≢false b
+never_without (Some Unreadable) s a b = true≢false b
 
 row_there : (session set : ℕ) (s : State) (o : Option PlacedRow) → row_of_set set s ≡ o → backup_refusal session s set Incremental ≡ None → is_some o ≡ false → ⊥
 unfolding backup_refusal
@@ -60,9 +60,9 @@ row_there session set s None e h n =
     (ap (λ (o : Option PlacedRow). is_not_incremental o (s.sets set) s) (sym e) ∙ not_refused (is_not_incremental (row_of_set set s) (s.sets set) s) NotIncremental (((passed.1).1).0))
 
 backed_up_good : (session set : ℕ) (kind : BackupKind) (s : State) → IsSound s → HasLogInRange s → 1 ≤ set → set ≤ 999 → backup_refusal session s set kind ≡ None → HasGood s → HasGood ((backed_up set kind s).1)
-backed_up_good session set Full s h log a b passed g = good_forced set (Some (Sound (full_now s))) s g
+backed_up_good session set Full s h log a b passed g = good_forced set (Some (Readable (full_now s))) s g
 backed_up_good session set FullEnable s h log a b passed g =
-    set_row_by set (Some (Sound (full_now s))) s (row_of_set set s) h log a b refl (λ n. few_enabled session set s passed n) g
+    set_row_by set (Some (Readable (full_now s))) s (row_of_set set s) h log a b refl (λ n. few_enabled session set s passed n) g
 backed_up_good session set Incremental s h log a b passed g =
     set_row_by set (extended_now (s.sets set) s) s (row_of_set set s) h log a b refl (λ n. absurd (row_there session set s (row_of_set set s) refl passed n)) g
 backed_up_good session set Stop s h log a b passed g = stop_by set s (row_of_set set s) refl h g
@@ -75,4 +75,4 @@ backup_by session set kind s None (Some r) e h log a b g = g
 backup_by session set kind s None None e h log a b g = backed_up_good session set kind s h log a b e g
 
 pub good-backup : (session set : ℕ) (kind : BackupKind) (s : State) → IsSound s → HasLogInRange s → 1 ≤ set → set ≤ 999 → HasGood s → HasGood ((backup_kind session set kind s).1)
-good-backup session set kind s h log a b g = backup_by session set kind s (backup_refusal session s set kind) (backup_place set kind s) refl h log a b g
+good-backup session set kind s h log a b g = backup_by session set kind s (backup_refusal session s set kind) (backup_position set kind s) refl h log a b g

@@ -4,8 +4,8 @@ use Rattle.std.proofs.lemmas.Bool.{and_parts}
 use Rattle.std.proofs.lemmas.Option.{unwrap_or-slice_get}
 use Rattle.std.proofs.lemmas.Slice.Eq.{bytes_eq-Decides}
 use Rattle.std.specs.Prelude.{bytes_eq, is_some}
-use Rattle.tt_value.specs.Names.{is_name}
-use Rattle.tt_value.specs.Orders.{text_of}
+use Rattle.tt_value.specs.Ident.{is_name}
+use Rattle.tt_value.specs.Order.{text_of}
 use Rattle.tt_value.specs.declared.value.Cell.{Cell}
 use Rattle.tt_value.specs.declared.value.Cell.TheVariants.{Full}
 use Rattle.tt_value.specs.declared.value.Value.{Value}
@@ -13,7 +13,7 @@ use Rattle.tt_value.specs.declared.value.Value.TheVariants.{Null, Int, Number, T
 use Rattle.tt_model.specs.Committed.{Cells, is_full}
 use Rattle.tt_model.specs.Live.{numbers_below}
 use Rattle.tt_model.specs.Tables.{PlacedRow, rows_of, text_at}
-use Rattle.tt_model.specs.Damages.{SystemTable, Bookmarks, Columns, Tables, are_taken, breaks_catalog, has_key_before, has_name_before, has_wrong_columns, has_wrong_positions, has_wrong_size, is_free_key, is_past_limit, lacks_bookmark, lacks_table, column_tests, first_bad_catalog, has_wrong_values, id_of, is_bad_catalog_at, is_bad_catalog_row, is_name_text}
+use Rattle.tt_model.specs.Damage.{SystemTable, Bookmarks, Columns, Tables, are_taken, breaks_catalog, has_key_before, has_name_before, has_wrong_columns, has_wrong_positions, has_wrong_size, is_free_key, is_past_limit, lacks_bookmark, lacks_table, column_tests, first_bad_catalog, has_wrong_values, id_of, is_bad_catalog_at, is_bad_catalog_row, is_name_text}
 use Rattle.tt_model.specs.System.{bookmark, system_rows}
 use Rattle.tt_model.specs.State.{State, bound, cells_of}
 use Rattle.tt_model.specs.Sound.{IsSound}

@@ -8,7 +8,7 @@ use Rattle.tt_value.specs.declared.value.Cell.TheVariants.{Empty, Full}
 use Rattle.tt_model.specs.Committed.{Cells, is_full}
 use Rattle.tt_model.specs.Live.{numbers_below}
 use Rattle.tt_model.specs.Tables.{PlacedRow, row_in, row_at, rows_of}
-use Rattle.tt_model.specs.Damages.{SystemTable, Tables, Columns, Indexes, Bookmarks, Subscriptions, Sets, system_table, id_of, breaks_catalog, is_bad_system, is_bad_catalog_row, is_bad_catalog_at, first_bad_catalog, has_wrong_values, has_wrong_size, is_free_key, has_key_before, has_name_before, has_wrong_columns, lacks_table, lacks_bookmark, has_wrong_positions, is_past_limit}
+use Rattle.tt_model.specs.Damage.{SystemTable, Tables, Columns, Indexes, Bookmarks, Subscriptions, Sets, system_table, id_of, breaks_catalog, is_bad_system, is_bad_catalog_row, is_bad_catalog_at, first_bad_catalog, has_wrong_values, has_wrong_size, is_free_key, has_key_before, has_name_before, has_wrong_columns, lacks_table, lacks_bookmark, has_wrong_positions, is_past_limit}
 use Rattle.tt_model.proofs.ConflictLemmas.{none_passes}
 use Rattle.tt_model.proofs.SystemLemmas.{none_found}
 use Rattle.tt_model.proofs.BookmarkLines.{among}

@@ -20,7 +20,7 @@ use Rattle.tt_model.specs.WholeRuns.{Each}
 use Rattle.tt_model.specs.Tables.{Table, PlacedRow, row_in, rows_of, number_at, with_number_at, by_number, table_of, column_of, column_named, catalog_of, table_named, whole_number_of}
 use Rattle.tt_model.specs.State.{State, cells_of, bound, catalog}
 use Rattle.tt_model.specs.System.{number, system_rows, has_twice, columns_in}
-use Rattle.tt_model.specs.Damages.{Tables, Columns, columns_with, is_number_from, is_number, is_table_id, is_flag, is_name_text, has_wrong_columns, are_counted, values_in, is_position_in, has_twice_in, is_twice, key_positions}
+use Rattle.tt_model.specs.Damage.{Tables, Columns, columns_with, is_number_from, is_number, is_table_id, is_flag, is_name_text, has_wrong_columns, are_counted, values_in, is_position_in, has_twice_in, is_twice, key_positions}
 use Rattle.tt_model.proofs.ConflictLemmas.{same_value-self}
 use Rattle.tt_model.proofs.RowLemmas.{LieIn, in_cell, are_rows-rows_of, are_rows-in_order}
 use Rattle.tt_model.proofs.OneHolderStatements.{each-found}

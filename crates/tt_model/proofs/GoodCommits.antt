@@ -10,9 +10,9 @@ use Rattle.tt_model.specs.Tables.{row_in}
 use Rattle.tt_model.specs.State.{State, cells_of, live_in, with_entry, with_edits, reversals}
 use Rattle.tt_model.specs.declared.definition.CellEdit.{CellEdit}
 use Rattle.tt_model.specs.Meaning.{Meant, Makes, Refuses, Gives}
-use Rattle.tt_model.specs.Step.{unless_refused, forced_where, statement, made, made_in, number_for, no_number_for, no_place, edit_length, settled, is_durable, commit_of, rollback_of, rolled_back, rollback_lengths, end_length}
+use Rattle.tt_model.specs.Step.{unless_refused, forced_where, statement, made, made_in, number_for, no_number_for, no_position, edit_length, session_ended, is_durable, commit_of, rollback_of, rolled_back, rollback_lengths, end_length}
 use Rattle.tt_model.specs.Sound.{whole_table, IsSound}
-use Rattle.tt_model.specs.Run.{ended, ended_one, roll_all, has_place}
+use Rattle.tt_model.specs.Run.{ended, ended_one, roll_all, has_position}
 use Rattle.tt_model.proofs.AppendLemmas.{cells-Abort, cells-Commit}
 use Rattle.tt_model.proofs.SteadyLemmas.{changed_by-untouched}
 use Rattle.tt_model.proofs.EndLemmas.{sound-ended}
@@ -31,7 +31,7 @@ cells_made : (session : ℕ) (edits : List CellEdit) (s : State) → cells_of ((
 cells_made session [] s = refl
 cells_made session (e ∷ es) s =
     let t : ℕ = number_for (s.own session) s in
-    cells_unless (option_or (no_number_for (s.own session) s) (no_place (map edit_length (e ∷ es)) s)) (Changed (suc (length es))) (made_in session t (e ∷ es) s) s (cells-with_edits t (e ∷ es) s)
+    cells_unless (option_or (no_number_for (s.own session) s) (no_position (map edit_length (e ∷ es)) s)) (Changed (suc (length es))) (made_in session t (e ∷ es) s) s (cells-with_edits t (e ∷ es) s)
 
 pub cells-statement : (session : ℕ) (m : Meant) (s : State) → cells_of ((statement session m s).1) ≡ cells_of s
 cells-statement session (Refuses r) s = refl
@@ -43,7 +43,7 @@ cells_rolled t s = cells-Abort t (with_edits t (reversals t s.entries) s) ∙ ce
 
 pub cells-rollback : (session : ℕ) (o : Option ℕ) (s : State) → cells_of ((rollback_of session o s).1) ≡ cells_of s
 cells-rollback session None s = refl
-cells-rollback session (Some t) s = cells_unless (no_place (rollback_lengths t s) s) Done (settled session (rolled_back t s)) s (cells_rolled t s)
+cells-rollback session (Some t) s = cells_unless (no_position (rollback_lengths t s) s) Done (session_ended session (rolled_back t s)) s (cells_rolled t s)
 
 -- ---- commits
 
@@ -60,17 +60,17 @@ module _ (s : State) (t : ℕ) (h : IsSound s) (l : is_live t s.entries ≡ true
   pub same-Commit : AreSameSystem (cells_of s) (cells_of (with_entry (Commit t) s))
   same-Commit = subst (λ (x : Cells). AreSameSystem (cells_of s) x) (sym (cells-Commit t s)) (record { rows = same_row })
 
-commit_good : (o : _) (session : ℕ) (s end : State) → IsSound s → AreSameSystem (cells_of s) (cells_of end) → IsSound ((unless_refused o (Done, settled session end) s).1) → HasGood s →
-    HasGood ((unless_refused o (Done, settled session end) s).1)
-commit_good None session s end h same k g = good-lift s (settled session end) h k (λ n l m x. good-same no_row n (cells_of s) (cells_of end) same x) g
+commit_good : (o : _) (session : ℕ) (s end : State) → IsSound s → AreSameSystem (cells_of s) (cells_of end) → IsSound ((unless_refused o (Done, session_ended session end) s).1) → HasGood s →
+    HasGood ((unless_refused o (Done, session_ended session end) s).1)
+commit_good None session s end h same k g = good-lift s (session_ended session end) h k (λ n l m x. good-same no_row n (cells_of s) (cells_of end) same x) g
 commit_good (Some r) session s end h same k g = g
 
 pub good-commit : (session : ℕ) (o : Option ℕ) (s : State) → s.own session ≡ o → IsSound s → IsSound ((commit_of session o s).1) → HasGood s → HasGood ((commit_of session o s).1)
-good-commit session None s e h k g = good-cells s (settled session (forced_where (is_durable session s) s)) h k (cells_forced (is_durable session s) s) g
+good-commit session None s e h k g = good-cells s (session_ended session (forced_where (is_durable session s) s)) h k (cells_forced (is_durable session s) s) g
 good-commit session (Some t) s e h k g =
     let mid : State = with_entry (Commit t) s in
     let end : State = forced_where (is_durable session s) mid in
-    commit_good (no_place (end_length ∷ []) s) session s end h
+    commit_good (no_position (end_length ∷ []) s) session s end h
     (subst (λ (x : Cells). AreSameSystem (cells_of s) x) (sym (cells_forced (is_durable session s) mid)) (same-Commit s t h ((h.owned).live session t e))) k g
 
 -- ---- the end of a run
@@ -82,7 +82,7 @@ cells_roll_where t ts s e false = refl
 
 cells_roll_all : (ts : List ℕ) (s : State) → cells_of ((roll_all ts s).1) ≡ cells_of s
 cells_roll_all [] s = cells_all_forced s
-cells_roll_all (t ∷ ts) s = cells_roll_where t ts s (cells_roll_all ts (ended_one t s)) (has_place t s)
+cells_roll_all (t ∷ ts) s = cells_roll_where t ts s (cells_roll_all ts (ended_one t s)) (has_position t s)
 
 cells_ended : (s : State) → cells_of ((ended s).1) ≡ cells_of s
 unfolding ended

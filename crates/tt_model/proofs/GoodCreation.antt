@@ -3,7 +3,7 @@ use Rattle.std.proofs.Common.{◌≡◌, ◌<◌, ◌≤◌, ◌+◌, inl, inr, 
 use Rattle.std.proofs.lemmas.Bool.{leb-false, ltb-false, or_parts, both_ways, not-false}
 use Rattle.std.specs.Prelude.{nat_le, nat_lt, not, bytes_eq, count_by, is_some}
 use Rattle.std.specs.List.{list_any, list_all}
-use Rattle.tt_value.specs.Names.{is_name}
+use Rattle.tt_value.specs.Ident.{is_name}
 use Rattle.tt_value.specs.Same.{same_value}
 use Rattle.tt_value.specs.declared.value.Value.TheVariants.{Text}
 use Rattle.tt_value.specs.declared.value.Row.{Row}
@@ -24,7 +24,7 @@ use Rattle.tt_model.specs.Step.{forced_where, system_done}
 use Rattle.tt_model.specs.Sound.{IsSound, MayWrite}
 use Rattle.tt_model.specs.Ranges.{HasRanges, IsColumn}
 use Rattle.tt_model.specs.WholeRuns.{Each}
-use Rattle.tt_model.specs.Damages.{is_table_id, columns_with}
+use Rattle.tt_model.specs.Damage.{is_table_id, columns_with}
 use Rattle.tt_model.proofs.AppendLemmas.{cells-Commit}
 use Rattle.tt_model.proofs.IsolationLemmas.{full-below}
 use Rattle.tt_model.proofs.StatementLemmas.{unless-makes, makes_same, each_none}

@@ -15,7 +15,7 @@ use Rattle.tt_model.specs.System.{system_rows, deletes, subscription, unsubscrib
 use Rattle.tt_model.specs.Backups.{row_of_set}
 use Rattle.tt_model.specs.Step.{system_done}
 use Rattle.tt_model.specs.Sound.{IsSound}
-use Rattle.tt_model.specs.Damages.{SystemTable, id_of, table_column}
+use Rattle.tt_model.specs.Damage.{SystemTable, id_of, table_column}
 use Rattle.tt_model.proofs.EditLemmas.{is_at, has_edit}
 use Rattle.tt_model.proofs.IsolationLemmas.{full-below}
 use Rattle.tt_model.proofs.RowLemmas.{LieIn, AreRows, are_rows-filter}

@@ -4,7 +4,7 @@ use Rattle.std.proofs.lemmas.Bool.{eqb-true, or_cases, both_ways, false_from_ne_
 use Rattle.std.specs.Prelude.{◌==◌, bytes_eq}
 use Rattle.std.specs.Ordering.{nat_cmp}
 use Rattle.std.specs.Cmp.Lexicographic.{slice_cmp}
-use Rattle.tt_value.specs.Orders.{text_of}
+use Rattle.tt_value.specs.Order.{text_of}
 use Rattle.tt_value.specs.declared.value.Row.{Row}
 use Rattle.tt_value.specs.declared.value.Cell.TheVariants.{Full}
 use Rattle.tt_model.specs.Committed.{Cells, is_full}
@@ -16,7 +16,7 @@ use Rattle.tt_model.specs.Meaning.{Makes}
 use Rattle.tt_model.specs.System.{system_rows, deletes, bookmark, delete_bookmark, drop_table, meant_by_delete_bookmark, meant_by_drop_table}
 use Rattle.tt_model.specs.Step.{system_done}
 use Rattle.tt_model.specs.Sound.{IsSound}
-use Rattle.tt_model.specs.Damages.{SystemTable, Tables, Columns, Indexes, Bookmarks, Subscriptions, Sets, id_of, table_column}
+use Rattle.tt_model.specs.Damage.{SystemTable, Tables, Columns, Indexes, Bookmarks, Subscriptions, Sets, id_of, table_column}
 use Rattle.tt_model.proofs.EditLemmas.{has_edit}
 use Rattle.tt_model.proofs.IsolationLemmas.{full-below}
 use Rattle.tt_model.proofs.RowLemmas.{AreRows, are_rows-in_order, are_rows-filter}

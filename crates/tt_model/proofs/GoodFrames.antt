@@ -9,7 +9,7 @@ use Rattle.tt_model.specs.Live.{numbers_below}
 use Rattle.tt_model.specs.Holders.{value_at, values_at}
 use Rattle.tt_model.specs.Values.{same_values}
 use Rattle.tt_model.specs.Tables.{PlacedRow, row_in}
-use Rattle.tt_model.specs.Damages.{SystemTable, Tables, Columns, Indexes, Bookmarks, Subscriptions, Sets, id_of, is_past_limit, is_before, table_column, counted_with, limit_of}
+use Rattle.tt_model.specs.Damage.{SystemTable, Tables, Columns, Indexes, Bookmarks, Subscriptions, Sets, id_of, is_past_limit, is_before, table_column, counted_with, limit_of}
 use Rattle.tt_model.proofs.RowLemmas.{in_cell}
 use Rattle.tt_model.proofs.GoodPlaces.{has_at, tally, count-filter, count-rows, tally-fewer, rows-same, row-in}
 use Rattle.tt_model.proofs.GoodCells.{Follows, IsGoodBut, rows_in, id_low}

@@ -14,7 +14,7 @@ use Rattle.tt_model.specs.Values.{same_values}
 use Rattle.tt_model.specs.Tables.{Table, Index, PlacedRow, number_at, text_at, by_number, index_of, indexes_of, index_named, catalog_of, whole_number_of}
 use Rattle.tt_model.specs.State.{State, cells_of, bound, catalog}
 use Rattle.tt_model.specs.System.{number, system_rows}
-use Rattle.tt_model.specs.Damages.{Indexes, is_number_from, is_table_id, is_flag, is_name_text, is_positions_text, is_before}
+use Rattle.tt_model.specs.Damage.{Indexes, is_number_from, is_table_id, is_flag, is_name_text, is_positions_text, is_before}
 use Rattle.tt_model.specs.Sound.{IsSound}
 use Rattle.tt_model.proofs.ConflictLemmas.{same_values-self}
 use Rattle.tt_model.proofs.IsolationLemmas.{full-below}

@@ -3,9 +3,9 @@ use Rattle.std.proofs.Common.{◌≡◌, ◌<◌, ◌≤◌, ◌+◌, ℕ, Bool,
 use Rattle.std.proofs.lemmas.Bool.{eq-eqb, leb-false, and_from, or_from, both_ways, not_from_true, not-false}
 use Rattle.std.specs.Prelude.{◌==◌, nat_le, nat_lt, not, bytes_eq, count_by, is_some, slice_get}
 use Rattle.std.specs.List.{list_any, list_all}
-use Rattle.tt_value.specs.Names.{is_name}
+use Rattle.tt_value.specs.Ident.{is_name}
 use Rattle.tt_value.specs.Same.{same_value}
-use Rattle.tt_value.specs.Orders.{text_of}
+use Rattle.tt_value.specs.Order.{text_of}
 use Rattle.tt_value.specs.declared.value.Value.{Value}
 use Rattle.tt_value.specs.declared.value.Value.TheVariants.{Text}
 use Rattle.tt_value.specs.declared.value.Row.{Row}
@@ -23,7 +23,7 @@ use Rattle.tt_model.specs.Meaning.{Makes, first_of, refused_if, no_room}
 use Rattle.tt_model.specs.System.{number, flag, row, adds, in_transaction, system_rows, least_unused, columns_in, positions_text, has_twice, has_value_twice, open_on, create_index, meant_by_create_index}
 use Rattle.tt_model.specs.Step.{system_done}
 use Rattle.tt_model.specs.Sound.{IsSound}
-use Rattle.tt_model.specs.Damages.{Indexes, are_taken, column_tests, is_flag, is_positions_text, has_value_in, has_twice_in, is_position_in, columns_with}
+use Rattle.tt_model.specs.Damage.{Indexes, are_taken, column_tests, is_flag, is_positions_text, has_value_in, has_twice_in, is_position_in, columns_with}
 use Rattle.tt_model.proofs.ConflictLemmas.{same_value-self}
 use Rattle.tt_model.proofs.IsolationLemmas.{full-below}
 use Rattle.tt_model.proofs.StatementLemmas.{unless-makes, makes_same, each_none}

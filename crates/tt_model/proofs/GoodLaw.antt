@@ -6,10 +6,10 @@ use Rattle.tt_value.specs.declared.reply.Reply.{Reply}
 use Rattle.tt_parse.specs.declared.command.Command.{Command}
 use Rattle.tt_set.specs.declared.settings.Settings.{Settings}
 use Rattle.tt_model.specs.Committed.{committed}
-use Rattle.tt_model.specs.Found.{Found}
+use Rattle.tt_model.specs.Opened.{Opened}
 use Rattle.tt_model.specs.Sets.{SetStanding}
 use Rattle.tt_model.specs.State.{State, bound, cells_of, with_entry}
-use Rattle.tt_model.specs.Damages.{first_bad_catalog}
+use Rattle.tt_model.specs.Damage.{first_bad_catalog}
 use Rattle.tt_model.specs.Entries.{HasLogInRange, IsOfGrammar, HasKeptReaders}
 use Rattle.tt_model.specs.Sound.{IsSound}
 use Rattle.tt_model.specs.Step.{Step}
@@ -23,7 +23,7 @@ use Rattle.tt_model.proofs.GoodLines.{good-step}
 has-good : (s : State) → IsSound s → HasGoodCatalog s → HasGood s
 has-good s h g = good-from (bound s) (cells_of s) (lies-below s h) g
 
-begun_good : (settings : Settings) (found : Found) (files : ℕ → Bool) (sets : ℕ → Option SetStanding) → first_bad_catalog (bound (opened settings found files sets)) found.cells ≡ None →
+begun_good : (settings : Settings) (found : Opened) (files : ℕ → Bool) (sets : ℕ → Option SetStanding) → first_bad_catalog (bound (opened settings found files sets)) found.cells ≡ None →
     HasGoodCatalog (begun settings found files sets)
 unfolding begun with_entry committed
 begun_good settings found files sets g = g

@@ -9,7 +9,7 @@ use Rattle.tt_model.specs.Live.{numbers_below}
 use Rattle.tt_model.specs.Holders.{values_at}
 use Rattle.tt_model.specs.Values.{same_values}
 use Rattle.tt_model.specs.Tables.{PlacedRow}
-use Rattle.tt_model.specs.Damages.{SystemTable, Tables, Columns, Indexes, Bookmarks, Subscriptions, Sets, id_of, is_past_limit, is_before, counted_with, limit_of}
+use Rattle.tt_model.specs.Damage.{SystemTable, Tables, Columns, Indexes, Bookmarks, Subscriptions, Sets, id_of, is_past_limit, is_before, counted_with, limit_of}
 use Rattle.tt_model.proofs.ConflictLemmas.{same_values-self}
 use Rattle.tt_model.proofs.GoodPlaces.{has_at, tally, count-rows, tally-two, tally-apart, tally-one, tally-there, has-row, row-has}
 use Rattle.tt_model.proofs.GoodValues.{same-values}

@@ -8,13 +8,13 @@ use Rattle.tt_value.specs.declared.reply.Reply.TheVariants.{Done}
 use Rattle.tt_parse.specs.declared.command.Command.{Command}
 use Rattle.tt_parse.specs.declared.command.Command.TheVariants.{CreateTable, DropTable, CreateIndex, DropIndex, Insert, Update, Delete, Select, Commit as CommitLine, Rollback, DurableCommit, Flush, Ckpt, CkptBlocking, LogHolds, Bookmark, Backup as BackupLine, XlaCreate, XlaDelete, XlaSubscribe, XlaUnsubscribe, XlaOpen, XlaNext, XlaAcknowledge, XlaClose}
 use Rattle.tt_model.specs.Tables.{PlacedRow}
-use Rattle.tt_model.specs.State.{State, Reader, Begun, cells_of, live_in, all_forced}
+use Rattle.tt_model.specs.State.{State, Reader, Underway, cells_of, live_in, all_forced}
 use Rattle.tt_model.specs.declared.definition.CellEdit.{CellEdit}
 use Rattle.tt_model.specs.Checkpoint.{begin_checkpoint, copied, with_copies, with_all_copies, complete_where_due, completed, with_completion}
 use Rattle.tt_model.specs.Meaning.{Meant, Makes, Refuses, Gives}
 use Rattle.tt_model.specs.System.{bookmark, bookmark_values, in_transaction, acknowledge, acknowledge_in, rewrites, meant_by_acknowledge}
 use Rattle.tt_model.specs.Backups.{kind_done}
-use Rattle.tt_model.specs.Step.{Step, Answers, line, unless_refused, system, system_done, no_system_place, checkpoint_open, no_checkpoint_number, least_open, begun_reply, completion_after}
+use Rattle.tt_model.specs.Step.{Step, Answers, line, unless_refused, system, system_done, no_system_position, checkpoint_open, no_checkpoint_number, least_open, begun_reply, completion_after}
 use Rattle.tt_model.specs.Sound.{IsSound}
 use Rattle.tt_model.specs.Entries.{HasLogInRange, IsKept, IsOfGrammar, HasKeptReaders}
 use Rattle.tt_model.specs.Ranges.{HasRanges}
@@ -38,7 +38,7 @@ good_unless (Some r) reply after s g k = g
 good_system : (m : Meant) (s : State) → ((edits : List CellEdit) → m ≡ Makes edits → HasGood (system_done edits s)) → HasGood s → HasGood ((system m s).1)
 good_system (Refuses r) s f g = g
 good_system (Gives rows) s f g = g
-good_system (Makes edits) s f g = good_unless (no_system_place edits s) Done (system_done edits s) s g (f edits refl)
+good_system (Makes edits) s f g = good_unless (no_system_position edits s) Done (system_done edits s) s g (f edits refl)
 
 -- ---- acknowledging
 
@@ -70,27 +70,27 @@ good_all_forced : (s : State) → HasGood s → HasGood (all_forced s)
 unfolding all_forced
 good_all_forced s g = g
 
-good_copied : (n : ℕ) (o : Option Begun) (s : State) → HasGood s → HasGood (copied n o s)
+good_copied : (n : ℕ) (o : Option Underway) (s : State) → HasGood s → HasGood (copied n o s)
 good_copied n None s g = g
 good_copied n (Some b) s g = g
 
-log_copied : (n : ℕ) (o : Option Begun) (s : State) → HasLogInRange s → HasLogInRange (copied n o s)
+log_copied : (n : ℕ) (o : Option Underway) (s : State) → HasLogInRange s → HasLogInRange (copied n o s)
 log_copied n None s k = k
 log_copied n (Some b) s k = record { size = k.size; found = k.found; end = k.end; entries = k.entries }
 
-readers_copied : (n : ℕ) (o : Option Begun) (s : State) → HasKeptReaders s → HasKeptReaders (copied n o s)
+readers_copied : (n : ℕ) (o : Option Underway) (s : State) → HasKeptReaders s → HasKeptReaders (copied n o s)
 readers_copied n None s k = k
 readers_copied n (Some b) s k = k
 
-good_completed : (b : Begun) (s : State) → HasGood s → HasGood (completed b s)
+good_completed : (b : Underway) (s : State) → HasGood s → HasGood (completed b s)
 unfolding completed all_forced
 good_completed b s g = g
 
-good_due : (b : Begun) (s : State) (c : Bool) → HasGood s → HasGood (if c then completed b s else s)
+good_due : (b : Underway) (s : State) (c : Bool) → HasGood s → HasGood (if c then completed b s else s)
 good_due b s true g = good_completed b s g
 good_due b s false g = g
 
-good_where : (o : Option Begun) (s : State) → HasGood s → HasGood (complete_where_due o s)
+good_where : (o : Option Underway) (s : State) → HasGood s → HasGood (complete_where_due o s)
 good_where None s g = g
 good_where (Some b) s g = good_due b s (length b.left == 0) g
 
@@ -98,7 +98,7 @@ good_completion : (s : State) → HasGood s → HasGood (with_completion s)
 unfolding with_completion
 good_completion s g = good_where s.underway s g
 
-good_after : (o : Option Begun) (s : State) → HasGood s → HasGood (completion_after o s)
+good_after : (o : Option Underway) (s : State) → HasGood s → HasGood (completion_after o s)
 good_after None s g = g
 good_after (Some b) s g = good_completion s g
 

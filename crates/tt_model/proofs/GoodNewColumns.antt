@@ -22,7 +22,7 @@ use Rattle.tt_model.specs.Steady.{MayChange}
 use Rattle.tt_model.specs.Sound.{MayWrite}
 use Rattle.tt_model.specs.Ranges.{IsColumn, IsType}
 use Rattle.tt_model.specs.WholeRuns.{Each}
-use Rattle.tt_model.specs.Damages.{Columns, are_taken, column_tests, is_number_from, is_number, is_flag, is_table_id, is_size_of, has_value_in, columns_with}
+use Rattle.tt_model.specs.Damage.{Columns, are_taken, column_tests, is_number_from, is_number, is_flag, is_table_id, is_size_of, has_value_in, columns_with}
 use Rattle.tt_model.proofs.ConflictLemmas.{same_value-self}
 use Rattle.tt_model.proofs.SteadySteps.{steady-grown}
 use Rattle.tt_model.proofs.SoundLemmas.{LogOf, log-Change, in_page}

@@ -13,7 +13,7 @@ use Rattle.tt_model.specs.Live.{numbers_from}
 use Rattle.tt_model.specs.Holders.{value_at}
 use Rattle.tt_model.specs.Tables.{PlacedRow}
 use Rattle.tt_model.specs.System.{number, row, has_twice, key_position}
-use Rattle.tt_model.specs.Damages.{is_number, are_counted, values_in, is_twice, key_positions}
+use Rattle.tt_model.specs.Damage.{is_number, are_counted, values_in, is_twice, key_positions}
 use Rattle.tt_model.proofs.ConflictLemmas.{same_value-self}
 use Rattle.tt_model.proofs.GoodPlaces.{any-filter}
 use Rattle.tt_model.proofs.GoodRemovals.{wrong_own}

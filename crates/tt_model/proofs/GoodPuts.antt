@@ -12,7 +12,7 @@ use Rattle.tt_model.specs.Committed.{Cells}
 use Rattle.tt_model.specs.Holders.{value_at, values_at}
 use Rattle.tt_model.specs.Values.{same_values}
 use Rattle.tt_model.specs.Tables.{PlacedRow, row_in, rows_of, text_at, read_positions}
-use Rattle.tt_model.specs.Damages.{SystemTable, Tables, Columns, Indexes, Bookmarks, Subscriptions, Sets, system_table, id_of, has_wrong_values, has_wrong_size, is_free_key, has_name_before, has_wrong_columns, lacks_table, lacks_bookmark, has_wrong_positions, is_past_limit, is_there_before, table_column, has_value_in, columns_with, key_columns}
+use Rattle.tt_model.specs.Damage.{SystemTable, Tables, Columns, Indexes, Bookmarks, Subscriptions, Sets, system_table, id_of, has_wrong_values, has_wrong_size, is_free_key, has_name_before, has_wrong_columns, lacks_table, lacks_bookmark, has_wrong_positions, is_past_limit, is_there_before, table_column, has_value_in, columns_with, key_columns}
 use Rattle.tt_model.proofs.GoodPlaces.{kept_at, IsThere, rows-same, filter-same, row-in, any-there, there-any, any-none}
 use Rattle.tt_model.proofs.GoodValues.{same-value, same-values}
 use Rattle.tt_model.proofs.GoodCells.{Follows, IsGoodBut, rows_in, table-of_id}

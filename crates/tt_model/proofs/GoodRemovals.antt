@@ -12,7 +12,7 @@ use Rattle.tt_model.specs.Committed.{Cells, is_full}
 use Rattle.tt_model.specs.Holders.{value_at, values_at}
 use Rattle.tt_model.specs.Values.{same_values}
 use Rattle.tt_model.specs.Tables.{PlacedRow, row_in, rows_of, text_at, read_positions}
-use Rattle.tt_model.specs.Damages.{SystemTable, Tables, Columns, Indexes, Bookmarks, Subscriptions, Sets, id_of, has_name_before, has_wrong_columns, lacks_bookmark, has_wrong_positions, is_there_before, is_before, table_column, has_value_in, columns_with, key_columns, are_counted, values_in, is_twice, key_positions, is_position_in, has_twice_in}
+use Rattle.tt_model.specs.Damage.{SystemTable, Tables, Columns, Indexes, Bookmarks, Subscriptions, Sets, id_of, has_name_before, has_wrong_columns, lacks_bookmark, has_wrong_positions, is_there_before, is_before, table_column, has_value_in, columns_with, key_columns, are_counted, values_in, is_twice, key_positions, is_position_in, has_twice_in}
 use Rattle.tt_model.proofs.RowLemmas.{in_cell}
 use Rattle.tt_model.proofs.GoodPlaces.{has_at, kept_at, IsThere, any-filter, filter-same, has-row, row-has, any-there, there-any, any-none}
 use Rattle.tt_model.proofs.GoodValues.{same-value}

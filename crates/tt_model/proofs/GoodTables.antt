@@ -4,9 +4,9 @@ use Rattle.std.proofs.lemmas.Bool.{cases_Bool, eqb-true, eq-eqb, and_from, both_
 use Rattle.std.specs.Prelude.{not, bytes_eq, count_by, is_some, slice_get}
 use Rattle.std.specs.List.{list_any}
 use Rattle.std.specs.Ordering.{nat_cmp}
-use Rattle.tt_value.specs.Names.{is_name}
+use Rattle.tt_value.specs.Ident.{is_name}
 use Rattle.tt_value.specs.Same.{same_value}
-use Rattle.tt_value.specs.Orders.{text_of}
+use Rattle.tt_value.specs.Order.{text_of}
 use Rattle.tt_value.specs.declared.value.Value.{Value}
 use Rattle.tt_value.specs.declared.value.Value.TheVariants.{Text}
 use Rattle.tt_value.specs.declared.value.Row.{Row}
@@ -17,7 +17,7 @@ use Rattle.tt_model.specs.Tables.{Table, PlacedRow, rows_of, number_at, text_at,
 use Rattle.tt_model.specs.State.{State, cells_of, bound, catalog}
 use Rattle.tt_model.specs.System.{number, row, system_rows}
 use Rattle.tt_model.specs.Sound.{IsSound}
-use Rattle.tt_model.specs.Damages.{SystemTable, Tables, Columns, Indexes, Bookmarks, Subscriptions, Sets, are_taken, column_tests, is_table_id, has_wrong_columns, columns_with, has_value_in}
+use Rattle.tt_model.specs.Damage.{SystemTable, Tables, Columns, Indexes, Bookmarks, Subscriptions, Sets, are_taken, column_tests, is_table_id, has_wrong_columns, columns_with, has_value_in}
 use Rattle.tt_model.proofs.ConflictLemmas.{same_value-self}
 use Rattle.tt_model.proofs.IsolationLemmas.{full-below}
 use Rattle.tt_model.proofs.SystemLines.{any-in_order}

@@ -5,8 +5,8 @@ use Rattle.std.proofs.lemmas.Slice.Eq.{bytes_eq-Decides}
 use Rattle.std.proofs.lemmas.List.Sums.{sum_by-cons}
 use Rattle.std.specs.Prelude.{◌==◌, pos, negsuc, nat_le, count_by, is_some}
 use Rattle.std.specs.List.{list_any, filter_map, cons_option}
-use Rattle.tt_value.specs.Names.{is_name}
-use Rattle.tt_value.specs.Orders.{text_of}
+use Rattle.tt_value.specs.Ident.{is_name}
+use Rattle.tt_value.specs.Order.{text_of}
 use Rattle.tt_value.specs.declared.position.Position.{Position}
 use Rattle.tt_value.specs.declared.value.Value.{Value}
 use Rattle.tt_value.specs.declared.value.Value.TheVariants.{Null, Int, Number, Text}
@@ -21,7 +21,7 @@ use Rattle.tt_model.specs.State.{State, trail, cells_of, catalog, write_position
 use Rattle.tt_model.specs.System.{number, bookmark, system_rows}
 use Rattle.tt_model.specs.Backups.{row_of_set}
 use Rattle.tt_model.specs.Entries.{HasLogInRange, IsKept}
-use Rattle.tt_model.specs.Damages.{SystemTable, Tables, Bookmarks, Sets, id_of, are_taken, column_tests, is_number_from, is_name_text, is_table_id, is_log_file, is_log_offset}
+use Rattle.tt_model.specs.Damage.{SystemTable, Tables, Bookmarks, Sets, id_of, are_taken, column_tests, is_number_from, is_name_text, is_table_id, is_log_file, is_log_offset}
 use Rattle.tt_model.proofs.RowLemmas.{in_cell}
 use Rattle.tt_model.proofs.TableRows.{HasTable, kept_row}
 use Rattle.tt_model.proofs.TableLines.{table-there}

@@ -17,7 +17,7 @@ use Rattle.tt_model.specs.declared.definition.CellEdit.{CellEdit}
 use Rattle.tt_model.specs.System.{adds, rewrites, row}
 use Rattle.tt_model.specs.Step.{system_done}
 use Rattle.tt_model.specs.Sound.{IsSound}
-use Rattle.tt_model.specs.Damages.{SystemTable, Tables, Columns, Bookmarks, Sets, id_of, has_wrong_values, has_wrong_size, is_free_key, has_wrong_columns, lacks_table, lacks_bookmark, has_wrong_positions, is_past_limit, key_columns, limit_of}
+use Rattle.tt_model.specs.Damage.{SystemTable, Tables, Columns, Bookmarks, Sets, id_of, has_wrong_values, has_wrong_size, is_free_key, has_wrong_columns, lacks_table, lacks_bookmark, has_wrong_positions, is_past_limit, key_columns, limit_of}
 use Rattle.tt_model.proofs.ConflictLemmas.{same_values-self}
 use Rattle.tt_model.proofs.EditLemmas.{free-not_used}
 use Rattle.tt_model.proofs.IsolationLemmas.{full-below}

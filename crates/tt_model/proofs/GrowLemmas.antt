@@ -6,11 +6,11 @@ use Rattle.tt_value.specs.declared.refusal.Refusal.{Refusal}
 use Rattle.tt_value.specs.declared.reply.Reply.{Reply}
 use Rattle.tt_parse.specs.declared.command.Command.{Command}
 use Rattle.tt_parse.specs.declared.command.Command.TheVariants.{Ckpt, CkptBlocking}
-use Rattle.tt_record.specs.Entries.{length_of}
+use Rattle.tt_record.specs.Entry.{length_of}
 use Rattle.tt_record.specs.declared.entry.Entry.{Entry}
 use Rattle.tt_model.specs.Trail.{Trail, IsOrdered}
-use Rattle.tt_model.specs.Found.{Found}
-use Rattle.tt_model.specs.State.{State, Begun, trail, live_in, placed, write_position, with_entry, all_forced}
+use Rattle.tt_model.specs.Opened.{Opened}
+use Rattle.tt_model.specs.State.{State, Underway, trail, live_in, placed, write_position, with_entry, all_forced}
 use Rattle.tt_model.specs.Checkpoint.{begin_checkpoint, copied, with_copies, with_all_copies, complete_where_due, completed, with_completion}
 use Rattle.tt_model.specs.Step.{Step, Answers, WantsMemory, answer, line, unless_refused, checkpoint_open, no_checkpoint_number, least_open, completion_after}
 use Rattle.tt_model.proofs.AppendLemmas.{forced_for-most, forced_for-least}
@@ -69,8 +69,8 @@ grows-beside s after other f e n g = record {
   newer = g.newer;
   entries = e ∙ g.entries;
   forced = λ h. subst (λ k. (s.forced ≤ k) × (k ≤ length (trail other))) (sym n) (subst (λ (xs : Trail). (s.forced ≤ after.forced) × (after.forced ≤ length (xs ++ other.found.entries))) (sym e)
-      (subst (λ (x : Found). (s.forced ≤ after.forced) × (after.forced ≤ length (after.entries ++ x.entries))) (sym f) (g.forced h)));
-  ordered = λ o. subst (λ (xs : Trail). IsOrdered other.found.end xs) (sym e) (subst (λ (x : Found). IsOrdered x.end after.entries) (sym f) (g.ordered o));
+      (subst (λ (x : Opened). (s.forced ≤ after.forced) × (after.forced ≤ length (after.entries ++ x.entries))) (sym f) (g.forced h)));
+  ordered = λ o. subst (λ (xs : Trail). IsOrdered other.found.end xs) (sym e) (subst (λ (x : Opened). IsOrdered x.end after.entries) (sym f) (g.ordered o));
 }
 
 grows-line : (session : ℕ) (command : Command) (s : State) → is_checkpoint command ≡ false → Grows s ((line session command s).1)
@@ -80,7 +80,7 @@ grows-line session command s n =
 
 -- ---- checkpoints
 
-grows-copied : (n : ℕ) (o : Option Begun) (s : State) → Grows s (copied n o s)
+grows-copied : (n : ℕ) (o : Option Underway) (s : State) → Grows s (copied n o s)
 grows-copied n None s = grows-same s
 grows-copied n (Some b) s = grows-beside s s (copied n (Some b) s) refl refl refl (grows-same s)
 
@@ -88,15 +88,15 @@ grows-begin : (s : State) → Grows s (begin_checkpoint s)
 unfolding begin_checkpoint
 grows-begin s = grows-beside s s (begin_checkpoint s) refl refl refl (grows-same s)
 
-grows-completed : (b : Begun) (s : State) → Grows s (completed b s)
+grows-completed : (b : Underway) (s : State) → Grows s (completed b s)
 unfolding completed all_forced
 grows-completed b s = grows-beside s (all_forced s) (completed b s) refl refl refl (grows-all_forced s)
 
-grows_due : (b : Begun) (s : State) (c : Bool) → Grows s (if c then completed b s else s)
+grows_due : (b : Underway) (s : State) (c : Bool) → Grows s (if c then completed b s else s)
 grows_due b s true = grows-completed b s
 grows_due b s false = grows-same s
 
-grows_where : (o : Option Begun) (s : State) → Grows s (complete_where_due o s)
+grows_where : (o : Option Underway) (s : State) → Grows s (complete_where_due o s)
 grows_where None s = grows-same s
 grows_where (Some b) s = grows_due b s (length b.left == 0)
 
@@ -104,7 +104,7 @@ grows-with_completion : (s : State) → Grows s (with_completion s)
 unfolding with_completion
 grows-with_completion s = grows_where s.underway s
 
-grows-completion_after : (o : Option Begun) (s : State) → Grows s (completion_after o s)
+grows-completion_after : (o : Option Underway) (s : State) → Grows s (completion_after o s)
 grows-completion_after None s = grows-same s
 grows-completion_after (Some b) s = grows-with_completion s
 
@@ -169,7 +169,7 @@ readers-line session command s n m =
     line-through SameReaders false (λ x. refl) (λ x y z a b. b ∙ a) readers_entry readers_forced (λ own wish sets x. refl)
     (λ y reader x. let no : ⊥ = cc in absurd no) session command s n (λ y. sym m ∙ y)
 
-readers_copied : (n : ℕ) (o : Option Begun) (s : State) → SameReaders s (copied n o s)
+readers_copied : (n : ℕ) (o : Option Underway) (s : State) → SameReaders s (copied n o s)
 readers_copied n None s = refl
 readers_copied n (Some b) s = refl
 
@@ -185,15 +185,15 @@ readers_begin : (s : State) → SameReaders s (begin_checkpoint s)
 unfolding begin_checkpoint
 readers_begin s = refl
 
-readers_completed : (b : Begun) (s : State) → SameReaders s (completed b s)
+readers_completed : (b : Underway) (s : State) → SameReaders s (completed b s)
 unfolding completed all_forced
 readers_completed b s = refl
 
-readers_due : (b : Begun) (s : State) (c : Bool) → SameReaders s (if c then completed b s else s)
+readers_due : (b : Underway) (s : State) (c : Bool) → SameReaders s (if c then completed b s else s)
 readers_due b s true = readers_completed b s
 readers_due b s false = refl
 
-readers_where : (o : Option Begun) (s : State) → SameReaders s (complete_where_due o s)
+readers_where : (o : Option Underway) (s : State) → SameReaders s (complete_where_due o s)
 readers_where None s = refl
 readers_where (Some b) s = readers_due b s (length b.left == 0)
 
@@ -201,7 +201,7 @@ readers_with_completion : (s : State) → SameReaders s (with_completion s)
 unfolding with_completion
 readers_with_completion s = readers_where s.underway s
 
-pub readers-completion_after : (o : Option Begun) (s : State) → SameReaders s (completion_after o s)
+pub readers-completion_after : (o : Option Underway) (s : State) → SameReaders s (completion_after o s)
 readers-completion_after None s = refl
 readers-completion_after (Some b) s = readers_with_completion s
 

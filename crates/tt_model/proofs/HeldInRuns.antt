@@ -19,10 +19,10 @@ use Rattle.tt_model.specs.Committed.{Cells, is_full}
 use Rattle.tt_model.specs.Live.{live, numbers_from}
 use Rattle.tt_model.specs.Values.{same_values}
 use Rattle.tt_model.specs.Holders.{Held, HasOneHolder, values_at, has_held, holds_by, is_held_by}
-use Rattle.tt_model.specs.Found.{Found}
+use Rattle.tt_model.specs.Opened.{Opened}
 use Rattle.tt_model.specs.Sets.{SetStanding}
 use Rattle.tt_model.specs.Tables.{Table, Index, PlacedRow, row_at, rows_of, number_at, by_number, in_order, inserted, index_of, key_of, catalog_of, Catalog}
-use Rattle.tt_model.specs.State.{State, Begun, cells_of, bound, catalog, with_entry}
+use Rattle.tt_model.specs.State.{State, Underway, cells_of, bound, catalog, with_entry}
 use Rattle.tt_model.specs.Sound.{whole_table, IsSound}
 use Rattle.tt_model.specs.Checkpoint.{copied, with_copies}
 use Rattle.tt_model.specs.Step.{Step}
@@ -126,7 +126,7 @@ record IsHeldOnce (s : State) : Type 0 where
   pub keys : (m : ℕ) (values : List Value) → HasOneHolder (key_held m (key_columns m s) values) s.entries
   pub values : (q : ℕ) (row : Row) → cells_of s q ≡ Full 3 row → HasValuesOnce s.entries (index_of (q, row))
 
-key_copied : (m n : ℕ) (o : Option Begun) (s : State) → key_columns m (copied n o s) ≡ key_columns m s
+key_copied : (m n : ℕ) (o : Option Underway) (s : State) → key_columns m (copied n o s) ≡ key_columns m s
 key_copied m n None s = refl
 key_copied m n (Some b) s = refl
 
@@ -161,7 +161,7 @@ module _ (s : State) (session : ℕ) (what : Result Command Refusal) (reply : Re
 
 -- ---- whole runs
 
-readers_copied : (n : ℕ) (o : Option Begun) (s : State) → ReadersHaveBookmarks s → ReadersHaveBookmarks (copied n o s)
+readers_copied : (n : ℕ) (o : Option Underway) (s : State) → ReadersHaveBookmarks s → ReadersHaveBookmarks (copied n o s)
 readers_copied n None s k = k
 readers_copied n (Some b) s k = k
 
@@ -179,11 +179,11 @@ once-run (l ∷ ls) (r ∷ rs) s after w h k o run =
 once-run [] (r ∷ rs) s after w h k o run = absurd run
 once-run (l ∷ ls) [] s after w h k o run = absurd run
 
-there-begun : (settings : Settings) (found : Found) (files : ℕ → Bool) (sets : ℕ → Option SetStanding) → TablesAreThere (begun settings found files sets)
+there-begun : (settings : Settings) (found : Opened) (files : ℕ → Bool) (sets : ℕ → Option SetStanding) → TablesAreThere (begun settings found files sets)
 unfolding begun with_entry live
 there-begun settings found files sets m u l h = absurd (true≢false (sym l))
 
-once-begun : (settings : Settings) (found : Found) (files : ℕ → Bool) (sets : ℕ → Option SetStanding) → IsHeldOnce (begun settings found files sets)
+once-begun : (settings : Settings) (found : Opened) (files : ℕ → Bool) (sets : ℕ → Option SetStanding) → IsHeldOnce (begun settings found files sets)
 unfolding begun with_entry
 once-begun settings found files sets = record {
   tables = there-begun settings found files sets;

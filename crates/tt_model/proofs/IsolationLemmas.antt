@@ -18,7 +18,7 @@ use Rattle.tt_model.specs.Tables.{Table, PlacedRow, row_in, row_at, rows_of, in_
 use Rattle.tt_model.specs.Conditions.{takes}
 use Rattle.tt_model.specs.Meaning.{Meant, Refuses, Gives, Makes, unless, select_refusal, shown, order_cmp, select_in, rows_seen, meant_by_select}
 use Rattle.tt_value.specs.declared.refusal.Refusal.TheVariants.{NoTable}
-use Rattle.tt_model.specs.State.{State, Begun, trail, view, cells_of, bound, catalog}
+use Rattle.tt_model.specs.State.{State, Underway, trail, view, cells_of, bound, catalog}
 use Rattle.tt_model.specs.declared.definition.CellEdit.{CellEdit}
 use Rattle.tt_model.specs.Sound.{IsSound}
 use Rattle.tt_model.specs.Checkpoint.{copied, with_copies}
@@ -188,7 +188,7 @@ answer-alike session table items cond order s other h k l =
 
 -- ---- rounds
 
-copied-alike : (session n m : ℕ) (o p : Option Begun) (s other : State) → LookAlike session s other → LookAlike session (copied n o s) (copied m p other)
+copied-alike : (session n m : ℕ) (o p : Option Underway) (s other : State) → LookAlike session s other → LookAlike session (copied n o s) (copied m p other)
 copied-alike session n m None None s other l = l
 copied-alike session n m None (Some c) s other l = record { settings = l.settings; cells = l.cells; own = l.own }
 copied-alike session n m (Some b) None s other l = record { settings = l.settings; cells = l.cells; own = l.own }

@@ -113,6 +113,7 @@ pub mod SystemLines
 pub mod TableLines
 pub mod TableRounds
 pub mod TableRows
+pub mod Theorems
 pub mod UsedCounts
 pub mod WorkEntries
 pub mod WorkLemmas

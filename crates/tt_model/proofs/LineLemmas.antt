@@ -10,13 +10,13 @@ use Rattle.tt_parse.specs.declared.command.Items.TheVariants.{All, Columns, Sums
 use Rattle.tt_value.specs.declared.value.Row.{Row}
 use Rattle.tt_parse.specs.declared.command.OrderItem.{OrderItem}
 use Rattle.tt_parse.specs.declared.command.ColumnText.{ColumnText}
-use Rattle.tt_model.specs.Tables.{Table, PlacedRow, table_named}
+use Rattle.tt_model.specs.Tables.{Table, PlacedRow, table_named, whole_number_of}
 use Rattle.tt_model.specs.Meaning.{Meant, Makes, Refuses, Gives, unless, first_of, aggregate_refusal, shown, select_refusal, select_in, meant_by_select}
 use Rattle.tt_model.specs.System.{least_unused, column_rows, create_index, subscribe, reader_on, bookmark, meant_by_create_table, meant_by_create_index, meant_by_create_bookmark, meant_by_subscribe}
 use Rattle.tt_model.specs.State.{State, Reader, next, catalog}
 use Rattle.tt_model.specs.declared.definition.CellEdit.{CellEdit}
 use Rattle.tt_model.specs.Sound.{IsUserTable, IsSound, MayEdit}
-use Rattle.tt_model.specs.Step.{number_for, statement, made, unless_refused, system, no_system_place, no_number_for, no_place, edit_length, commit_of, rollback_of, rollback_lengths, is_durable, end_length, given, closed, refused, open_at, no_skip, given_to, next_place_of}
+use Rattle.tt_model.specs.Step.{number_for, statement, made, unless_refused, system, no_system_position, no_number_for, no_position, edit_length, commit_of, rollback_of, rollback_lengths, is_durable, end_length, given, closed, refused, open_at, no_skip, given_to, next_read_of}
 use Rattle.tt_model.proofs.SoundLines.{sound-made_in, sound-Commit, sound-settled_none, sound-rolled_back, sound-system_done}
 use Rattle.tt_model.proofs.EditLemmas.{AreNew, new-MayEdit}
 use Rattle.tt_model.proofs.StatementLemmas.{unless-makes, makes_same}
@@ -26,7 +26,6 @@ use Rattle.tt_value.specs.declared.value.Cell.TheVariants.{Empty, Full as FullCe
 use Rattle.tt_value.specs.declared.value.Value.TheVariants.{Int, Text}
 use Rattle.tt_model.specs.Live.{numbers_from}
 use Rattle.tt_model.specs.Holders.{value_at}
-use Rattle.tt_model.specs.Tables.{whole_number_of}
 use Rattle.tt_model.proofs.CatalogLemmas.{AreOfUsers, LeaveUserTables, not_held_user}
 
 -- A refused line has no effect.
@@ -39,7 +38,7 @@ sound-unless (Some r) reply after s h k = h
 sound-made : (session : ℕ) (edits : List CellEdit) (s : State) → IsSound s → AreOfUsers edits → MayEdit (number_for (s.own session) s) edits s → IsSound ((made session edits s).1)
 sound-made session [] s h o m = h
 sound-made session (e ∷ es) s h o m =
-    sound-unless (option_or (no_number_for (s.own session) s) (no_place (map edit_length (e ∷ es)) s)) _ _ s h (sound-made_in s session e es h o m)
+    sound-unless (option_or (no_number_for (s.own session) s) (no_position (map edit_length (e ∷ es)) s)) _ _ s h (sound-made_in s session e es h o m)
 
 pub sound-statement : (session : ℕ) (m : Meant) (s : State) → IsSound s →
     ((edits : List CellEdit) → m ≡ Makes edits → AreOfUsers edits × MayEdit (number_for (s.own session) s) edits s) → IsSound ((statement session m s).1)
@@ -78,7 +77,7 @@ AreSome (e ∷ es) = Unit {0}
 sound-new : (edits : List CellEdit) (s : State) → IsSound s → AreSome edits → AreNew edits → LeaveUserTables edits → IsSound ((system (Makes edits) s).1)
 sound-new [] s h some n u = absurd some
 sound-new (e ∷ es) s h some n u =
-    sound-unless (no_system_place (e ∷ es) s) _ _ s h (sound-system_done e es s h u (new-MayEdit (next s) (e ∷ es) s h.entries (inr refl) n))
+    sound-unless (no_system_position (e ∷ es) s) _ _ s h (sound-system_done e es s h u (new-MayEdit (next s) (e ∷ es) s h.entries (inr refl) n))
 
 pub sound-system_new : (m : Meant) (s : State) → IsSound s → ((edits : List CellEdit) → m ≡ Makes edits → AreSome edits × AreNew edits × LeaveUserTables edits) → IsSound ((system m s).1)
 sound-system_new (Refuses r) s h f = h
@@ -153,11 +152,11 @@ subscribe_new session s table name edits h = subscribe-new session s name (table
 pub sound-commit_of : (session : ℕ) (o : Option ℕ) (s : State) → IsSound s → s.own session ≡ o → IsSound ((commit_of session o s).1)
 sound-commit_of session None s h is = sound-settled_none s session (is_durable session s) h
 sound-commit_of session (Some t) s h is =
-    sound-unless (no_place (end_length ∷ []) s) _ _ s h (sound-Commit s session t (is_durable session s) h is)
+    sound-unless (no_position (end_length ∷ []) s) _ _ s h (sound-Commit s session t (is_durable session s) h is)
 
 pub sound-rollback_of : (session : ℕ) (o : Option ℕ) (s : State) → IsSound s → s.own session ≡ o → IsSound ((rollback_of session o s).1)
 sound-rollback_of session None s h is = sound-settled_none s session false h
-sound-rollback_of session (Some t) s h is = sound-unless (no_place (rollback_lengths t s) s) _ _ s h (sound-rolled_back s session t h is)
+sound-rollback_of session (Some t) s h is = sound-unless (no_position (rollback_lengths t s) s) _ _ s h (sound-rolled_back s session t h is)
 
 -- ---- readers
 
@@ -173,7 +172,7 @@ sound_opened_if session name s false h = sound-opened session name (bookmark nam
 pub sound-given : (session : ℕ) (o : Option Reader) (n : ℕ) (s : State) → IsSound s → IsSound ((given session o n s).1)
 sound-given session None n s h = h
 sound-given session (Some r) n s h =
-    sound-unless (no_skip (next_place_of r n s)) _ ((given_to session r n s).1) s h (record { entries = h.entries; owned = h.owned; catalog = h.catalog })
+    sound-unless (no_skip (next_read_of r n s)) _ ((given_to session r n s).1) s h (record { entries = h.entries; owned = h.owned; catalog = h.catalog })
 
 pub sound-closed : (session : ℕ) (o : Option Reader) (s : State) → IsSound s → IsSound ((closed session o s).1)
 sound-closed session None s h = h

@@ -14,13 +14,13 @@ use Rattle.tt_value.specs.declared.reply.Reply.TheVariants.{Done, Changed}
 use Rattle.tt_record.specs.declared.entry.Entry.{Entry}
 use Rattle.tt_record.specs.declared.entry.Entry.TheVariants.{Change, Commit, Abort}
 use Rattle.tt_model.specs.Tables.{PlacedRow}
-use Rattle.tt_model.specs.Sets.{SetStanding, Sound}
+use Rattle.tt_model.specs.Sets.{SetStanding, Readable}
 use Rattle.tt_model.specs.State.{State, Reader, at_one, place_for, next, write_position, with_entry, with_edit, with_edits, all_forced, reversals}
 use Rattle.tt_model.specs.declared.definition.CellEdit.{CellEdit}
 use Rattle.tt_model.specs.Meaning.{Meant, Refuses, Gives, Makes}
 use Rattle.tt_model.specs.System.{bookmark, reader_on, deletes}
 use Rattle.tt_model.specs.Backups.{kind_done, backup_refusal, row_of_set, set_edit, full_now, extended_now, with_set}
-use Rattle.tt_model.specs.Step.{line, unless_refused, forced_where, number_for, no_number_for, no_place, no_system_place, edit_length, end_length, rollback_lengths, is_durable, with_reader, kept_place, next_place_of, made, made_in, statement, settled, commit_of, rollback_of, rolled_back, system, system_done, open_at, refused, given, closed, backed_up, backup_place, backup_kind, no_skip, given_to}
+use Rattle.tt_model.specs.Step.{line, unless_refused, forced_where, number_for, no_number_for, no_position, no_system_position, edit_length, end_length, rollback_lengths, is_durable, with_reader, kept_read, next_read_of, made, made_in, statement, session_ended, commit_of, rollback_of, rolled_back, system, system_done, open_at, refused, given, closed, backed_up, backup_position, backup_kind, no_skip, given_to}
 
 -- A line that begins or ends a checkpoint.
 abbrev pub is_checkpoint : Command → Bool
@@ -61,7 +61,7 @@ module _ (R : State → State → Type 0) (readers : Bool) (same : (s : State) �
   r-made session [] s = same s
   r-made session (e ∷ es) s =
       let t : ℕ = number_for (s.own session) s in
-      r-unless (option_or (no_number_for (s.own session) s) (no_place (map edit_length (e ∷ es)) s)) (Changed (suc (length es))) (made_in session t (e ∷ es) s) s
+      r-unless (option_or (no_number_for (s.own session) s) (no_position (map edit_length (e ∷ es)) s)) (Changed (suc (length es))) (made_in session t (e ∷ es) s) s
       (let end : State = with_edits t (e ∷ es) s in then s end (made_in session t (e ∷ es) s) (r-with_edits t (e ∷ es) s) (aside (at_one session (Some t) s.own) end.wish end.sets end))
 
   r-statement : (session : ℕ) (m : Meant) (s : State) → R s ((statement session m s).1)
@@ -69,15 +69,15 @@ module _ (R : State → State → Type 0) (readers : Bool) (same : (s : State) �
   r-statement session (Gives rows) s = same s
   r-statement session (Makes edits) s = r-made session edits s
 
-  r-settled : (session : ℕ) (s after : State) → R s after → R s (settled session after)
-  r-settled session s after a = then s after (settled session after) a (aside (at_one session None after.own) (at_one session false after.wish) after.sets after)
+  r-settled : (session : ℕ) (s after : State) → R s after → R s (session_ended session after)
+  r-settled session s after a = then s after (session_ended session after) a (aside (at_one session None after.own) (at_one session false after.wish) after.sets after)
 
   r-commit_of : (session : ℕ) (o : Option ℕ) (s : State) → R s ((commit_of session o s).1)
   r-commit_of session None s = r-settled session s (forced_where (is_durable session s) s) (r-forced_where (is_durable session s) s)
   r-commit_of session (Some t) s =
       let mid : State = with_entry (Commit t) s in
       let end : State = forced_where (is_durable session s) mid in
-      r-unless (no_place (end_length ∷ []) s) Done (settled session end) s
+      r-unless (no_position (end_length ∷ []) s) Done (session_ended session end) s
       (r-settled session s end (then s mid end (entry (Commit t) s) (r-forced_where (is_durable session s) mid)))
 
   pub rolled-through : (t : ℕ) (s : State) → R s (rolled_back t s)
@@ -86,7 +86,7 @@ module _ (R : State → State → Type 0) (readers : Bool) (same : (s : State) �
 
   r-rollback_of : (session : ℕ) (o : Option ℕ) (s : State) → R s ((rollback_of session o s).1)
   r-rollback_of session None s = r-settled session s s (same s)
-  r-rollback_of session (Some t) s = r-unless (no_place (rollback_lengths t s) s) Done (settled session (rolled_back t s)) s (r-settled session s (rolled_back t s) (rolled-through t s))
+  r-rollback_of session (Some t) s = r-unless (no_position (rollback_lengths t s) s) Done (session_ended session (rolled_back t s)) s (r-settled session s (rolled_back t s) (rolled-through t s))
 
   r-in_one : (t : ℕ) (edits : List CellEdit) (c : Bool) (s : State) → R s (forced_where c (with_entry (Commit t) (with_edits t edits s)))
   r-in_one t edits c s =
@@ -100,13 +100,13 @@ module _ (R : State → State → Type 0) (readers : Bool) (same : (s : State) �
   r-system : (m : Meant) (s : State) → R s ((system m s).1)
   r-system (Refuses r) s = same s
   r-system (Gives rows) s = same s
-  r-system (Makes edits) s = r-unless (no_system_place edits s) Done (system_done edits s) s (r-system_done edits s)
+  r-system (Makes edits) s = r-unless (no_system_position edits s) Done (system_done edits s) s (r-system_done edits s)
 
   r-open_at : readers ≡ true → (session : ℕ) (name : List ℕ) (o : Option PlacedRow) (s : State) → R s ((open_at session name o s).1)
   r-open_at y session name None s = same s
   r-open_at y session name (Some r) s =
-      r-unless (option_map BookmarkBusy (reader_on name s)) Done (with_reader session (Some (record { bookmark = name; place = kept_place r })) s) s
-      (reading y (at_one session (Some (record { bookmark = name; place = kept_place r })) s.reader) s)
+      r-unless (option_map BookmarkBusy (reader_on name s)) Done (with_reader session (Some (record { bookmark = name; place = kept_read r })) s) s
+      (reading y (at_one session (Some (record { bookmark = name; place = kept_read r })) s.reader) s)
 
   r-opened : readers ≡ true → (session : ℕ) (name : List ℕ) (s : State) (c : Bool) → R s ((cond c (refused (BookmarkBusy session) s) (open_at session name (bookmark name s) s)).1)
   r-opened y session name s true = same s
@@ -115,8 +115,8 @@ module _ (R : State → State → Type 0) (readers : Bool) (same : (s : State) �
   r-given : readers ≡ true → (session : ℕ) (o : Option Reader) (n : ℕ) (s : State) → R s ((given session o n s).1)
   r-given y session None n s = same s
   r-given y session (Some r) n s =
-      r-unless (no_skip (next_place_of r n s)) ((given_to session r n s).0) ((given_to session r n s).1) s
-      (reading y (at_one session (Some (record r { place = next_place_of r n s })) s.reader) s)
+      r-unless (no_skip (next_read_of r n s)) ((given_to session r n s).0) ((given_to session r n s).1) s
+      (reading y (at_one session (Some (record r { place = next_read_of r n s })) s.reader) s)
 
   r-closed : readers ≡ true → (session : ℕ) (o : Option Reader) (s : State) → R s ((closed session o s).1)
   r-closed y session None s = same s
@@ -136,14 +136,14 @@ module _ (R : State → State → Type 0) (readers : Bool) (same : (s : State) �
   r-stop s (Some r) = r-system_done (deletes 6 r ∷ []) s
 
   r-backed_up : (set : ℕ) (kind : BackupKind) (s : State) → R s ((backed_up set kind s).1)
-  r-backed_up set Full s = r-with_set set (Some (Sound (full_now s))) s
-  r-backed_up set FullEnable s = r-set set (Some (Sound (full_now s))) (set_edit (row_of_set set s) set (write_position s) ∷ []) s
+  r-backed_up set Full s = r-with_set set (Some (Readable (full_now s))) s
+  r-backed_up set FullEnable s = r-set set (Some (Readable (full_now s))) (set_edit (row_of_set set s) set (write_position s) ∷ []) s
   r-backed_up set Incremental s = r-set set (extended_now (s.sets set) s) (set_edit (row_of_set set s) set (write_position s) ∷ []) s
   r-backed_up set Stop s = r-stop s (row_of_set set s)
   r-backed_up set IncrOrFull s = same s
 
   r-backup_kind : (session set : ℕ) (kind : BackupKind) (s : State) → R s ((backup_kind session set kind s).1)
-  r-backup_kind session set kind s = r-unless (option_or (backup_refusal session s set kind) (backup_place set kind s)) ((backed_up set kind s).0) ((backed_up set kind s).1) s (r-backed_up set kind s)
+  r-backup_kind session set kind s = r-unless (option_or (backup_refusal session s set kind) (backup_position set kind s)) ((backed_up set kind s).0) ((backed_up set kind s).1) s (r-backed_up set kind s)
 
   pub line-through : (session : ℕ) (command : Command) (s : State) → is_checkpoint command ≡ false → (is_readers command ≡ true → readers ≡ true) → R s ((line session command s).1)
   unfolding line

@@ -9,13 +9,13 @@ use Rattle.tt_parse.specs.declared.command.Command.{Command}
 use Rattle.tt_parse.specs.declared.command.Command.TheVariants.{CkptBlocking}
 use Rattle.tt_record.specs.declared.entry.Entry.{Entry}
 use Rattle.tt_record.specs.declared.entry.Entry.TheVariants.{Change, Commit, Abort, Mark, Switch}
-use Rattle.tt_record.specs.Entries.{length_of}
+use Rattle.tt_record.specs.Entry.{length_of}
 use Rattle.tt_record.specs.EntryLaws.{few_bytes}
-use Rattle.tt_record.specs.Places.{end_of, next_place, position}
+use Rattle.tt_record.specs.Place.{end_of, next_position, position}
 use Rattle.tt_set.specs.declared.settings.Settings.{Settings}
 use Rattle.tt_model.specs.Trail.{Placed, Trail, trail_end, placed_end}
 use Rattle.tt_model.specs.Live.{pages_after}
-use Rattle.tt_model.specs.Found.{Found}
+use Rattle.tt_model.specs.Opened.{Opened}
 use Rattle.tt_model.specs.State.{State, all_forced, lengths_fit, placed, trail, with_entry, write_position}
 use Rattle.tt_model.specs.Checkpoint.{with_copies}
 use Rattle.tt_model.specs.Step.{Step, Answers, WantsMemory, answer, completion_after, forced_where, line}
@@ -47,7 +47,7 @@ abbrev pub IsInRange : Placed → Type 0
 IsInRange e = IsKept e.at × IsKept (placed_end e) × IsPlain e.entry
 
 -- The log, of what opening found and the new entries, is in its ranges, and so are the pages.
-pub record InRange (settings : Settings) (found : Found) (entries : Trail) (pages : ℕ) : Type 0 where
+pub record InRange (settings : Settings) (found : Opened) (entries : Trail) (pages : ℕ) : Type 0 where
   pub size : IsFileSize settings.log_file_size
   pub found_end : IsKept found.end
   pub end : IsKept (trail_end found.end entries)
@@ -71,8 +71,8 @@ fits_so at n size ns true is h = (ltb-true at.file 1000000 is, h)
 fits_so at n size ns false is h = absurd (true≢false (sym h))
 
 pub fits_next : (end : Position) (n size : ℕ) (ns : List ℕ) → lengths_fit size end (n ∷ ns) ≡ true →
-    ((next_place end n size).file < 1000000) × (lengths_fit size (end_of (next_place end n size) n) ns ≡ true)
-fits_next end n size ns h = fits_so (next_place end n size) n size ns (nat_lt (next_place end n size).file 1000000) refl h
+    ((next_position end n size).file < 1000000) × (lengths_fit size (end_of (next_position end n size) n) ns ≡ true)
+fits_next end n size ns h = fits_so (next_position end n size) n size ns (nat_lt (next_position end n size).file 1000000) refl h
 
 kept_so : (end : Position) (n size : ℕ) (fits : Bool) → nat_le (end.offset + n) size ≡ fits → IsKept end → IsFileSize size → n ≤ size →
     (let at : Position = cond fits end (position (end.file + 1) 0) in at).file < 1000000 → IsKept (cond fits end (position (end.file + 1) 0)) × IsKept (end_of (cond fits end (position (end.file + 1) 0)) n)
@@ -84,7 +84,7 @@ kept_so end n size false is h range few low =
     let size_most : size ≤ 67108864 = range.1 in
     (record { file = omega (arith, low); offset = omega arith }, record { file = omega (arith, low); offset = omega (arith, few, size_most) })
 
-kept_next : (end : Position) (n size : ℕ) → IsKept end → IsFileSize size → n ≤ size → (next_place end n size).file < 1000000 → IsKept (next_place end n size) × IsKept (end_of (next_place end n size) n)
+kept_next : (end : Position) (n size : ℕ) → IsKept end → IsFileSize size → n ≤ size → (next_position end n size).file < 1000000 → IsKept (next_position end n size) × IsKept (end_of (next_position end n size) n)
 kept_next end n size h range few low = kept_so end n size (nat_le (end.offset + n) size) refl h range few low
 
 pages_so : (e : Entry) (pages : ℕ) → IsPlain e → pages ≤ 65536 → pages_after e pages ≤ 65536
@@ -144,7 +144,7 @@ pub record SameParts (s after : State) : Type 0 where
 pub ranged-same : (s after : State) → SameParts s after → IsRanged s → IsRanged after
 ranged-same s after x h =
     subst (λ (t : Settings). InRange t after.found after.entries after.pages) (sym x.settings)
-    (subst (λ (f : Found). InRange s.settings f after.entries after.pages) (sym x.found)
+    (subst (λ (f : Opened). InRange s.settings f after.entries after.pages) (sym x.found)
     (subst (λ (es : Trail). InRange s.settings s.found es after.pages) (sym x.entries) (subst (InRange s.settings s.found s.entries) (sym x.pages) h)))
 
 log_parts : (s after : State) → SameLog after s → SameParts s after

@@ -9,10 +9,10 @@ use Rattle.std.specs.List.{list_any, filter_map, cons_option}
 use Rattle.std.specs.Option.{option_or}
 use Rattle.std.specs.Prelude.{is_none}
 use Rattle.std.specs.Ordering.{is_le, is_lt, ordering_reverse}
-use Rattle.tt_value.specs.Positions.{position_cmp}
+use Rattle.tt_value.specs.Position.{position_cmp}
 use Rattle.tt_value.specs.declared.position.Position.{Position}
 use Rattle.tt_value.specs.declared.value.Cell.{Cell}
-use Rattle.tt_record.specs.Entries.{length_of}
+use Rattle.tt_record.specs.Entry.{length_of}
 use Rattle.tt_record.specs.PlaceLaws.{end_behind}
 use Rattle.tt_record.specs.declared.entry.Entry.{Entry}
 use Rattle.tt_record.specs.declared.entry.Entry.TheVariants.{Change, Commit, Abort, Mark, Switch}

@@ -7,18 +7,18 @@ use Rattle.tt_parse.specs.declared.command.BackupKind.{BackupKind}
 use Rattle.tt_parse.specs.declared.command.BackupKind.TheVariants.{Full, FullEnable, Incremental, IncrOrFull, Stop}
 use Rattle.std.specs.Prelude.{is_none}
 use Rattle.tt_model.specs.Tables.{PlacedRow}
-use Rattle.tt_model.specs.Sets.{SetStanding, Sound, Unsound}
-use Rattle.tt_model.specs.State.{State, Begun}
+use Rattle.tt_model.specs.Sets.{SetStanding, Readable, Unreadable}
+use Rattle.tt_model.specs.State.{State, Underway}
 use Rattle.tt_model.specs.Meant.{meant}
 use Rattle.tt_model.specs.Meaning.{first_of, meant_by_delete, meant_by_insert, meant_by_select, meant_by_update, refused_if}
 use Rattle.tt_model.specs.System.{in_transaction, meant_by_acknowledge, meant_by_create_bookmark, meant_by_create_index, meant_by_create_table, meant_by_delete_bookmark, meant_by_drop_index, meant_by_drop_table, meant_by_subscribe, meant_by_unsubscribe}
 use Rattle.tt_model.specs.Backups.{backup_refusal, is_not_incremental, kind_done, row_of_set}
-use Rattle.tt_model.specs.Step.{backup_place}
+use Rattle.tt_model.specs.Step.{backup_position}
 
-abbrev pub aside : (ℕ → ℕ → Bool) → Option Begun → State → State
+abbrev pub aside : (ℕ → ℕ → Bool) → Option Underway → State → State
 aside stale underway s = record s { stale = stale; underway = underway }
 
-pub meant-aside : (session : ℕ) (command : Command) (stale : ℕ → ℕ → Bool) (u : Option Begun) (s : State) → meant session command (aside stale u s) ≡ meant session command s
+pub meant-aside : (session : ℕ) (command : Command) (stale : ℕ → ℕ → Bool) (u : Option Underway) (s : State) → meant session command (aside stale u s) ≡ meant session command s
 unfolding meant_by_insert meant_by_update meant_by_delete meant_by_select meant_by_create_table meant_by_drop_table meant_by_create_index meant_by_drop_index meant_by_create_bookmark meant_by_delete_bookmark meant_by_subscribe meant_by_unsubscribe meant_by_acknowledge
 meant-aside session (Insert table values) stale u s = refl
 meant-aside session (Update table sets cond) stale u s = refl
@@ -37,14 +37,14 @@ meant-aside session _ stale u s = refl
 
 -- ---- backups
 
-not_incremental-aside : (row : Option PlacedRow) (standing : Option SetStanding) (stale : ℕ → ℕ → Bool) (u : Option Begun) (s : State) →
+not_incremental-aside : (row : Option PlacedRow) (standing : Option SetStanding) (stale : ℕ → ℕ → Bool) (u : Option Underway) (s : State) →
     is_not_incremental row standing (aside stale u s) ≡ is_not_incremental row standing s
 not_incremental-aside row None stale u s = refl
-not_incremental-aside row (Some Unsound) stale u s = refl
-not_incremental-aside None (Some (Sound b)) stale u s = refl
-not_incremental-aside (Some r) (Some (Sound b)) stale u s = refl
+not_incremental-aside row (Some Unreadable) stale u s = refl
+not_incremental-aside None (Some (Readable b)) stale u s = refl
+not_incremental-aside (Some r) (Some (Readable b)) stale u s = refl
 
-pub refusal-aside : (session set : ℕ) (kind : BackupKind) (stale : ℕ → ℕ → Bool) (u : Option Begun) (s : State) → backup_refusal session (aside stale u s) set kind ≡ backup_refusal session s set kind
+pub refusal-aside : (session set : ℕ) (kind : BackupKind) (stale : ℕ → ℕ → Bool) (u : Option Underway) (s : State) → backup_refusal session (aside stale u s) set kind ≡ backup_refusal session s set kind
 unfolding backup_refusal
 refusal-aside session set Full stale u s = refl
 refusal-aside session set FullEnable stale u s = refl
@@ -53,14 +53,14 @@ refusal-aside session set Incremental stale u s =
 refusal-aside session set Stop stale u s = refl
 refusal-aside session set IncrOrFull stale u s = refl
 
-pub backup_place-aside : (set : ℕ) (kind : BackupKind) (stale : ℕ → ℕ → Bool) (u : Option Begun) (s : State) → backup_place set kind (aside stale u s) ≡ backup_place set kind s
+pub backup_place-aside : (set : ℕ) (kind : BackupKind) (stale : ℕ → ℕ → Bool) (u : Option Underway) (s : State) → backup_position set kind (aside stale u s) ≡ backup_position set kind s
 backup_place-aside set Full stale u s = refl
 backup_place-aside set FullEnable stale u s = refl
 backup_place-aside set Incremental stale u s = refl
 backup_place-aside set Stop stale u s = refl
 backup_place-aside set IncrOrFull stale u s = refl
 
-pub kind-aside : (set : ℕ) (kind : BackupKind) (stale : ℕ → ℕ → Bool) (u : Option Begun) (s : State) → kind_done kind set (aside stale u s) ≡ kind_done kind set s
+pub kind-aside : (set : ℕ) (kind : BackupKind) (stale : ℕ → ℕ → Bool) (u : Option Underway) (s : State) → kind_done kind set (aside stale u s) ≡ kind_done kind set s
 kind-aside set Full stale u s = refl
 kind-aside set FullEnable stale u s = refl
 kind-aside set Incremental stale u s = refl

@@ -11,7 +11,7 @@ use Rattle.tt_record.specs.declared.entry.Entry.TheVariants.{Change, Commit, Abo
 use Rattle.tt_set.specs.declared.settings.Settings.{Settings}
 use Rattle.tt_model.specs.Trail.{Trail}
 use Rattle.tt_model.specs.Live.{is_live, live, live_after}
-use Rattle.tt_model.specs.Found.{Found}
+use Rattle.tt_model.specs.Opened.{Opened}
 use Rattle.tt_model.specs.Sets.{SetStanding}
 use Rattle.tt_model.specs.State.{State, all_forced, live_in, reversals, trail, with_edit, with_entry, write_position}
 use Rattle.tt_model.specs.Backups.{row_of_set, set_edit}
@@ -94,13 +94,13 @@ numbered_mark : (s : State) → NewAreNumbered s → NewAreNumbered (with_entry 
 unfolding with_entry
 numbered_mark s n = (tt, n)
 
-begun_numbered : (settings : Settings) (found : Found) (files : ℕ → Bool) (sets : ℕ → Option SetStanding) → NewAreNumbered (begun settings found files sets)
+begun_numbered : (settings : Settings) (found : Opened) (files : ℕ → Bool) (sets : ℕ → Option SetStanding) → NewAreNumbered (begun settings found files sets)
 unfolding begun
 begun_numbered settings found files sets = numbered_mark (opened settings found files sets) tt
 
 -- Where opening found the same.
 still_numbered : (s after : State) → after.found ≡ s.found → AreNumberedFrom s.found.next after.entries → NewAreNumbered after
-still_numbered s after is n = subst (λ (f : Found). AreNumberedFrom f.next after.entries) (sym is) n
+still_numbered s after is n = subst (λ (f : Opened). AreNumberedFrom f.next after.entries) (sym is) n
 
 step_numbered : (s : State) (session : ℕ) (what : Result Command Refusal) (reply : Reply) (after : State) → IsSound s → NewAreNumbered s → Step s session what reply after → NewAreNumbered after
 step_numbered s session what reply after sound n st =
@@ -109,7 +109,7 @@ step_numbered s session what reply after sound n st =
     let begin : NewAreNumbered copies = still_numbered s copies same.found (have-same (IsNumberedFrom s.found.next) s copies same.entries n) in
     still_numbered s after (trails_go_on.step s session what reply after st).found
     (have-step (IsNumberedFrom s.found.next) s session what reply after
-    (λ command is. subst (λ (f : Found). EachOfWorks (IsNumberedFrom f.next) (works_of session command copies)) same.found (works_numbered session command copies (sound-with_copies s sound) begin)) n st)
+    (λ command is. subst (λ (f : Opened). EachOfWorks (IsNumberedFrom f.next) (works_of session command copies)) same.found (works_numbered session command copies (sound-with_copies s sound) begin)) n st)
 
 ended_numbered : (s : State) → IsSound s → NewAreNumbered s → NewAreNumbered ((ended s).1)
 ended_numbered s sound n = still_numbered s ((ended s).1) (trails_go_on.end s).found (have-ended (IsNumberedFrom s.found.next) s (end_numbered s sound n) n)

@@ -13,17 +13,17 @@ use Rattle.tt_parse.specs.declared.command.BackupKind.TheVariants.{Full, FullEna
 use Rattle.tt_record.specs.declared.entry.Entry.TheVariants.{Commit}
 use Rattle.tt_set.specs.declared.settings.Settings.{Settings}
 use Rattle.tt_model.specs.Holders.{Held, HasOneHolder}
-use Rattle.tt_model.specs.Found.{Found}
-use Rattle.tt_model.specs.Sets.{Sound, SetStanding}
+use Rattle.tt_model.specs.Opened.{Opened}
+use Rattle.tt_model.specs.Sets.{Readable, SetStanding}
 use Rattle.tt_model.specs.Tables.{PlacedRow, table_named, Catalog}
-use Rattle.tt_model.specs.State.{State, Reader, Begun, live_in, next, catalog, write_position, with_entry, with_edits, all_forced}
+use Rattle.tt_model.specs.State.{State, Reader, Underway, live_in, next, catalog, write_position, with_entry, with_edits, all_forced}
 use Rattle.tt_model.specs.declared.definition.CellEdit.{CellEdit}
 use Rattle.tt_model.specs.Meaning.{Meant, Makes, Refuses, Gives, meant_by_insert, meant_by_update, meant_by_delete, meant_by_select}
 use Rattle.tt_model.specs.System.{bookmark, reader_on, deletes}
 use Rattle.tt_model.specs.Backups.{kind_done, row_of_set, set_edit, full_now, extended_now, with_set, backup_refusal}
 use Rattle.tt_model.specs.Sound.{IsSound}
 use Rattle.tt_model.specs.Checkpoint.{begin_checkpoint, copied, with_copies, with_all_copies, complete_where_due, completed, with_completion}
-use Rattle.tt_model.specs.Step.{Step, Answers, WantsMemory, line, unless_refused, forced_where, statement, made, made_in, number_for, no_number_for, no_place, no_system_place, edit_length, settled, is_durable, commit_of, rollback_of, rolled_back, rollback_lengths, end_length, system, system_done, open_at, given, closed, refused, kept_place, with_reader, backed_up, backup_place, backup_kind, checkpoint_open, no_checkpoint_number, least_open, begun_reply, completion_after, no_skip, given_to, next_place_of}
+use Rattle.tt_model.specs.Step.{Step, Answers, WantsMemory, line, unless_refused, forced_where, statement, made, made_in, number_for, no_number_for, no_position, no_system_position, edit_length, session_ended, is_durable, commit_of, rollback_of, rolled_back, rollback_lengths, end_length, system, system_done, open_at, given, closed, refused, kept_read, with_reader, backed_up, backup_position, backup_kind, checkpoint_open, no_checkpoint_number, least_open, begun_reply, completion_after, no_skip, given_to, next_read_of}
 use Rattle.tt_model.specs.Run.{begun}
 use Rattle.tt_model.specs.WholeRuns.{Each, HasKeysOnce, HasValuesOnce, HeldOnce, HeldOnceStays}
 use Rattle.tt_model.proofs.OneHolderLemmas.{one_holder-Mark}
@@ -60,7 +60,7 @@ module _ (name : Held) where
   holds_made session [] s h f one = one
   holds_made session (e ∷ es) s h f one =
       let t : ℕ = number_for (s.own session) s in
-      holds_unless (option_or (no_number_for (s.own session) s) (no_place (map edit_length (e ∷ es)) s)) _ (made_in session t (e ∷ es) s) s one
+      holds_unless (option_or (no_number_for (s.own session) s) (no_position (map edit_length (e ∷ es)) s)) _ (made_in session t (e ∷ es) s) s one
       (one-with_edits name t (e ∷ es) s one (fresh-holder name t s (writes s session h)) f)
 
   holds_statement : (session : ℕ) (m : Meant) (s : State) → IsSound s → ((edits : List CellEdit) → m ≡ Makes edits → AllFree (number_for (s.own session) s) name edits s.entries) →
@@ -76,17 +76,17 @@ module _ (name : Held) where
   holds_Commit t s one = one-system name t [] s one
 
   holds_commit : (session : ℕ) (o : Option ℕ) (s : State) → Holds s → Holds ((commit_of session o s).1)
-  holds_commit session None s one = same_entries s (settled session (forced_where (is_durable session s) s)) (entries_forced (is_durable session s) s) one
+  holds_commit session None s one = same_entries s (session_ended session (forced_where (is_durable session s) s)) (entries_forced (is_durable session s) s) one
   holds_commit session (Some t) s one =
       let mid : State = with_entry (Commit t) s in
-      holds_unless (no_place (end_length ∷ []) s) Done (settled session (forced_where (is_durable session s) mid)) s one
-      (same_entries mid (settled session (forced_where (is_durable session s) mid)) (entries_forced (is_durable session s) mid) (holds_Commit t s one))
+      holds_unless (no_position (end_length ∷ []) s) Done (session_ended session (forced_where (is_durable session s) mid)) s one
+      (same_entries mid (session_ended session (forced_where (is_durable session s) mid)) (entries_forced (is_durable session s) mid) (holds_Commit t s one))
 
   holds_rollback : (session : ℕ) (o : Option ℕ) (s : State) → Holds s → Holds ((rollback_of session o s).1)
   unfolding Holds
   holds_rollback session None s one = one
   holds_rollback session (Some t) s one =
-      holds_unless (no_place (rollback_lengths t s) s) Done (settled session (rolled_back t s)) s one (one-rolled_back name t s one)
+      holds_unless (no_position (rollback_lengths t s) s) Done (session_ended session (rolled_back t s)) s one (one-rolled_back name t s one)
 
   holds_system_done : (edits : List CellEdit) (s : State) → Holds s → Holds (system_done edits s)
   unfolding Holds
@@ -97,7 +97,7 @@ module _ (name : Held) where
   holds_system : (m : Meant) (s : State) → Holds s → Holds ((system m s).1)
   holds_system (Refuses r) s one = one
   holds_system (Gives rows) s one = one
-  holds_system (Makes edits) s one = holds_unless (no_system_place edits s) Done (system_done edits s) s one (holds_system_done edits s one)
+  holds_system (Makes edits) s one = holds_unless (no_system_position edits s) Done (system_done edits s) s one (holds_system_done edits s one)
 
   -- ---- readers and backups
 
@@ -105,7 +105,7 @@ module _ (name : Held) where
   unfolding Holds
   holds_open_at session bookmark_name None s one = one
   holds_open_at session bookmark_name (Some r) s one =
-      holds_unless (option_map BookmarkBusy (reader_on bookmark_name s)) Done (with_reader session (Some (record { bookmark = bookmark_name; place = kept_place r })) s) s one one
+      holds_unless (option_map BookmarkBusy (reader_on bookmark_name s)) Done (with_reader session (Some (record { bookmark = bookmark_name; place = kept_read r })) s) s one one
 
   holds_opened : (session : ℕ) (bookmark_name : List ℕ) (s : State) (c : Bool) → Holds s → Holds ((cond c (refused (BookmarkBusy session) s) (open_at session bookmark_name (bookmark bookmark_name s) s)).1)
   holds_opened session bookmark_name s true one = one
@@ -114,7 +114,7 @@ module _ (name : Held) where
   holds_given : (session : ℕ) (o : Option Reader) (n : ℕ) (s : State) → Holds s → Holds ((given session o n s).1)
   unfolding Holds
   holds_given session None n s one = one
-  holds_given session (Some r) n s one = holds_unless (no_skip (next_place_of r n s)) ((given_to session r n s).0) ((given_to session r n s).1) s one one
+  holds_given session (Some r) n s one = holds_unless (no_skip (next_read_of r n s)) ((given_to session r n s).0) ((given_to session r n s).1) s one one
 
   holds_closed : (session : ℕ) (o : Option Reader) (s : State) → Holds s → Holds ((closed session o s).1)
   unfolding Holds
@@ -129,9 +129,9 @@ module _ (name : Held) where
   holds_stop s (Some r) one = holds_system_done (deletes 6 r ∷ []) s one
 
   holds_backed_up : (set : ℕ) (kind : BackupKind) (s : State) → Holds s → Holds ((backed_up set kind s).1)
-  holds_backed_up set Full s one = holds_with_set set (Some (Sound (full_now s))) s one
+  holds_backed_up set Full s one = holds_with_set set (Some (Readable (full_now s))) s one
   holds_backed_up set FullEnable s one =
-      holds_system_done (set_edit (row_of_set set s) set (write_position s) ∷ []) (with_set set (Some (Sound (full_now s))) (all_forced s)) (holds_with_set set (Some (Sound (full_now s))) s one)
+      holds_system_done (set_edit (row_of_set set s) set (write_position s) ∷ []) (with_set set (Some (Readable (full_now s))) (all_forced s)) (holds_with_set set (Some (Readable (full_now s))) s one)
   holds_backed_up set Incremental s one =
       holds_system_done (set_edit (row_of_set set s) set (write_position s) ∷ []) (with_set set (extended_now (s.sets set) s) (all_forced s)) (holds_with_set set (extended_now (s.sets set) s) s one)
   holds_backed_up set Stop s one = holds_stop s (row_of_set set s) one
@@ -139,11 +139,11 @@ module _ (name : Held) where
 
   holds_backup : (session set : ℕ) (kind : BackupKind) (s : State) → Holds s → Holds ((backup_kind session set kind s).1)
   holds_backup session set kind s one =
-      holds_unless (option_or (backup_refusal session s set kind) (backup_place set kind s)) ((backed_up set kind s).0) ((backed_up set kind s).1) s one (holds_backed_up set kind s one)
+      holds_unless (option_or (backup_refusal session s set kind) (backup_position set kind s)) ((backed_up set kind s).0) ((backed_up set kind s).1) s one (holds_backed_up set kind s one)
 
   -- ---- checkpoints
 
-  entries_copied : (n : ℕ) (o : Option Begun) (s : State) → (copied n o s).entries ≡ s.entries
+  entries_copied : (n : ℕ) (o : Option Underway) (s : State) → (copied n o s).entries ≡ s.entries
   entries_copied n None s = refl
   entries_copied n (Some b) s = refl
 
@@ -159,15 +159,15 @@ module _ (name : Held) where
   unfolding begin_checkpoint
   entries_begin s = refl
 
-  entries_completed : (b : Begun) (s : State) → (completed b s).entries ≡ s.entries
+  entries_completed : (b : Underway) (s : State) → (completed b s).entries ≡ s.entries
   unfolding completed all_forced
   entries_completed b s = refl
 
-  entries_due : (b : Begun) (s : State) (c : Bool) → (if c then completed b s else s).entries ≡ s.entries
+  entries_due : (b : Underway) (s : State) (c : Bool) → (if c then completed b s else s).entries ≡ s.entries
   entries_due b s true = entries_completed b s
   entries_due b s false = refl
 
-  entries_where : (o : Option Begun) (s : State) → (complete_where_due o s).entries ≡ s.entries
+  entries_where : (o : Option Underway) (s : State) → (complete_where_due o s).entries ≡ s.entries
   entries_where None s = refl
   entries_where (Some b) s = entries_due b s (length b.left == 0)
 
@@ -175,7 +175,7 @@ module _ (name : Held) where
   unfolding with_completion
   entries_with_completion s = entries_where s.underway s
 
-  entries_completion_after : (o : Option Begun) (s : State) → (completion_after o s).entries ≡ s.entries
+  entries_completion_after : (o : Option Underway) (s : State) → (completion_after o s).entries ≡ s.entries
   entries_completion_after None s = refl
   entries_completion_after (Some b) s = entries_with_completion s
 
@@ -241,7 +241,7 @@ module _ (name : Held) where
 
 -- ---- the catalog
 
-catalog_copied : (n : ℕ) (o : Option Begun) (s : State) → catalog (copied n o s) ≡ catalog s
+catalog_copied : (n : ℕ) (o : Option Underway) (s : State) → catalog (copied n o s) ≡ catalog s
 catalog_copied n None s = refl
 catalog_copied n (Some b) s = refl
 
@@ -266,7 +266,7 @@ each-all : {X : Type 0} (P : X → Type 0) (xs : List X) → ((x : X) → P x) �
 each-all P [] f = tt
 each-all P (x ∷ xs) f = (f x, each-all P xs f)
 
-stays-begun : (settings : Settings) (found : Found) (files : ℕ → Bool) (sets : ℕ → Option SetStanding) (c : Catalog) → HeldOnce c ((begun settings found files sets).entries)
+stays-begun : (settings : Settings) (found : Opened) (files : ℕ → Bool) (sets : ℕ → Option SetStanding) (c : Catalog) → HeldOnce c ((begun settings found files sets).entries)
 unfolding begun with_entry
 stays-begun settings found files sets c = record {
   keys = each-all (HasKeysOnce ((begun settings found files sets).entries)) c.tables (λ t values. one_holder-Mark _ (record { table = t.id; columns = t.key; values = values }) []);

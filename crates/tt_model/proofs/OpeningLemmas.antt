@@ -6,15 +6,15 @@ use Rattle.tt_model.proofs.PositionLemmas.{less_number}
 use Rattle.std.proofs.lemmas.Bool.{cond-true, or_left, or_right, ltb-true, false_from_ne_true}
 use Rattle.std.specs.List.{list_any}
 use Rattle.tt_value.specs.declared.position.Position.{Position}
-use Rattle.tt_record.specs.Entries.{length_of}
-use Rattle.tt_record.specs.Places.{position}
+use Rattle.tt_record.specs.Entry.{length_of}
+use Rattle.tt_record.specs.Place.{position}
 use Rattle.tt_record.specs.declared.entry.Entry.{Entry}
 use Rattle.tt_record.specs.declared.entry.Entry.TheVariants.{Switch}
 use Rattle.tt_model.specs.Trail.{Trail, Placed, position_eq, position_lt, position_le, least_position, since}
 use Rattle.tt_model.specs.Committed.{no_cells}
 use Rattle.tt_value.specs.declared.reply.Hold.{Hold}
 use Rattle.tt_model.specs.Live.{next_number, pages_named}
-use Rattle.tt_model.specs.Found.{Head, Found, first_head, only_first, scan_of}
+use Rattle.tt_model.specs.Opened.{Head, Opened, first_head, only_first, scan_of}
 use Rattle.tt_model.specs.Standing.{laid, named_next, log_of, walked, standing}
 use Rattle.tt_model.specs.Holds.{holds_of, least_of}
 use Rattle.tt_model.specs.Opening.{FilesRead, FirstImagesOpen, first_files, is_in_file, is_ahead, found_behind, found_from, held_by, with_entries, opening}
@@ -84,7 +84,7 @@ walked_in_file (Some es) entries_in read is walk = rw is (first_in_file es)
 hold_first : (end : Position) (holds : List Position) → (least_of end (position 0 0 ∷ holds)).file ≡ 0
 hold_first end holds = least_first (least_of end holds).file (least_of end holds).offset
 
-held_first : (database : ℕ) (f : Found) → f.heads ≡ only_first (first_head 0 database) → (held_by (first_head 0 database) f).file ≡ 0
+held_first : (database : ℕ) (f : Opened) → f.heads ≡ only_first (first_head 0 database) → (held_by (first_head 0 database) f).file ≡ 0
 unfolding holds_of
 held_first database f is =
     rw is (hold_first f.end (drop 1 (map (λ (h : Hold). h.at) (holds_of (λ file. scan_of (only_first (first_head 0 database) file)) (32 * pages_named 0 f.entries) f.cells []))))
@@ -96,7 +96,7 @@ unfolding opening
 first_images_open database entries_in entries end read =
     let files : FilesRead = first_files database entries_in in
     let head : Head = first_head 0 database in
-    let f : Found = found_behind files.heads head no_cells (entries, end) in
+    let f : Opened = found_behind files.heads head no_cells (entries, end) in
     ap (λ (b : Bool). if not b then None else found_from files head (log_of entries_in 0)) (walked_in_file (entries_in 0) entries_in (entries, end) refl read)
     ∙ (ap (found_from files head) read
     ∙ (ap (λ (n : ℕ). with_entries head f (log_of entries_in n)) (held_first database f refl)

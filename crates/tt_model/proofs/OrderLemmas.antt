@@ -3,7 +3,7 @@ use Rattle.std.proofs.Common.{◌≡◌, inl, inr, Bool, true, false, not, cond,
 use Rattle.std.proofs.lemmas.Bool.{cases_Bool, both_ways}
 use Rattle.std.specs.BTreeMap.Comparable.{le_lt_trans}
 use Rattle.std.specs.Ordering.{is_eq, is_le, is_lt, ordering_reverse}
-use Rattle.tt_value.specs.Positions.{position_cmp}
+use Rattle.tt_value.specs.Position.{position_cmp}
 use Rattle.tt_value.specs.declared.position.Position.{Position}
 use Rattle.tt_model.specs.Trail.{position_lt, position_le, position_eq, least_position}
 use Rattle.tt_model.proofs.LowLemmas.{position_total, lt-not_le, less_is, lt_self}

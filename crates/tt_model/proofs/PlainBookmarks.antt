@@ -6,8 +6,8 @@ use Rattle.std.proofs.lemmas.Str.{IsUtf8-from_ascii}
 use Rattle.std.proofs.lemmas.Str.Ascii.{IsAscii-from_all}
 use Rattle.std.specs.Prelude.{◌==◌, bytes_eq, is_some, slice_index, IsUtf8}
 use Rattle.std.specs.List.{list_all}
-use Rattle.tt_value.specs.Names.{is_digit, is_letter, is_name, is_reserved}
-use Rattle.tt_value.specs.Orders.{text_of}
+use Rattle.tt_value.specs.Ident.{is_digit, is_letter, is_name, is_reserved}
+use Rattle.tt_value.specs.Order.{text_of}
 use Rattle.tt_value.specs.Stored.{IsCell, IsStorable, IsStorableValue}
 use Rattle.tt_value.specs.declared.position.Position.{Position}
 use Rattle.tt_value.specs.declared.refusal.Refusal.{Refusal}
@@ -15,7 +15,7 @@ use Rattle.tt_value.specs.declared.refusal.Refusal.TheVariants.{BookmarkThere, N
 use Rattle.tt_value.specs.declared.value.Cell.TheVariants.{Full as FullCell}
 use Rattle.tt_value.specs.declared.value.Value.{Value}
 use Rattle.tt_value.specs.declared.value.Value.TheVariants.{Null, Int, Number, Text}
-use Rattle.tt_record.specs.Entries.{IsTransaction}
+use Rattle.tt_record.specs.Entry.{IsTransaction}
 use Rattle.tt_model.specs.Holders.{value_at}
 use Rattle.tt_model.specs.Tables.{PlacedRow, Table, table_named, text_at}
 use Rattle.tt_model.specs.Meaning.{Makes, first_of, no_room, refused_if}

@@ -10,7 +10,7 @@ use Rattle.tt_value.specs.declared.refusal.Refusal.TheVariants.{DuplicateKey, Na
 use Rattle.tt_value.specs.declared.value.Value.{Value}
 use Rattle.tt_value.specs.declared.value.Value.TheVariants.{Text}
 use Rattle.tt_parse.specs.declared.command.ColumnText.{ColumnText}
-use Rattle.tt_record.specs.Entries.{IsTransaction}
+use Rattle.tt_record.specs.Entry.{IsTransaction}
 use Rattle.tt_model.specs.Committed.{Cells}
 use Rattle.tt_model.specs.Live.{numbers_from}
 use Rattle.tt_model.specs.Tables.{Index, PlacedRow, Table, by_number, catalog_of, column_named, in_order, index_of, indexes_of, inserted, number_at, row_at, rows_of, table_named}

@@ -3,14 +3,14 @@ use Rattle.std.proofs.Common.{◌≡◌, ◌≤◌, ◌<◌, ◌+◌, ◌^◌, �
 use Rattle.std.proofs.lemmas.Int.{ints}
 use Rattle.std.proofs.lemmas.List.Concat.{length-flat_map}
 use Rattle.std.proofs.lemmas.List.Recursion.{is_sum_by}
-use Rattle.tt_value.specs.Words.{big_endian}
+use Rattle.tt_value.specs.BigEndian.{big_endian}
 use Rattle.tt_value.specs.Stored.{IsCell, IsStorable, IsStorableValue, value_bytes, values_bytes}
 use Rattle.tt_value.specs.declared.refusal.Refusal.{Refusal}
 use Rattle.tt_value.specs.declared.value.Cell.{Cell}
 use Rattle.tt_value.specs.declared.value.Cell.TheVariants.{Empty, Full}
 use Rattle.tt_value.specs.declared.value.Value.{Value}
 use Rattle.tt_value.specs.declared.value.Value.TheVariants.{Null, Int, Number, Text}
-use Rattle.tt_record.specs.Entries.{IsTransaction, of_one_table}
+use Rattle.tt_record.specs.Entry.{IsTransaction, of_one_table}
 use Rattle.tt_model.specs.Committed.{is_full}
 use Rattle.tt_model.specs.Tables.{Index, PlacedRow, Table, by_number, by_text, index_named, table_named, with_number_at}
 use Rattle.tt_model.specs.Meaning.{Makes, unless}

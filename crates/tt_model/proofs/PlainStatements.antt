@@ -19,7 +19,7 @@ use Rattle.tt_parse.specs.declared.command.SetItem.{SetItem}
 use Rattle.tt_parse.specs.declared.command.SetSource.{SetSource}
 use Rattle.tt_parse.specs.declared.command.SetSource.TheVariants.{Literal, Column, Plus, Minus}
 use Rattle.tt_parse.specs.declared.cond.Cond.{Cond}
-use Rattle.tt_record.specs.Entries.{IsTransaction}
+use Rattle.tt_record.specs.Entry.{IsTransaction}
 use Rattle.tt_model.specs.Committed.{Cells, is_full}
 use Rattle.tt_model.specs.Holders.{value_at}
 use Rattle.tt_model.specs.Tables.{PlacedRow, Table, column_named, table_named, unique_of}

@@ -7,13 +7,13 @@ use Rattle.tt_value.specs.declared.position.Position.{Position}
 use Rattle.tt_value.specs.declared.refusal.Refusal.TheVariants.{NoSet, NotIncremental, SetThere, TooMany}
 use Rattle.tt_parse.specs.declared.command.BackupKind.{BackupKind}
 use Rattle.tt_parse.specs.declared.command.BackupKind.TheVariants.{Full, FullEnable, Incremental, IncrOrFull, Stop}
-use Rattle.tt_record.specs.Entries.{IsTransaction}
+use Rattle.tt_record.specs.Entry.{IsTransaction}
 use Rattle.tt_model.specs.Trail.{Placed, Trail, before, position_lt}
 use Rattle.tt_model.specs.Committed.{is_full}
 use Rattle.tt_model.specs.Live.{live}
 use Rattle.tt_model.specs.Holds.{first_entries, first_entry, is_change_of, least_of, low, older_or}
 use Rattle.tt_model.specs.Tables.{PlacedRow}
-use Rattle.tt_model.specs.Sets.{SetStanding, Sound, Unsound}
+use Rattle.tt_model.specs.Sets.{SetStanding, Readable, Unreadable}
 use Rattle.tt_model.specs.Meaning.{first_of, no_room, refused_if}
 use Rattle.tt_model.specs.System.{deletes, in_transaction, number, row, system_rows}
 use Rattle.tt_model.specs.Backups.{backup_refusal, first_row_refusal, is_not_incremental, row_of_set, set_edit}
@@ -123,8 +123,8 @@ row_is_there o None s some isnt is = true≢false some
 row_is_there o (Some x) s some isnt is = no_row x (subst (λ (p : Option PlacedRow). is_not_incremental p (Some x) s ≡ false) is isnt)
   where
     no_row : (x : SetStanding) → is_not_incremental None (Some x) s ≡ false → ⊥
-    no_row (Sound b) k = true≢false k
-    no_row Unsound k = true≢false k
+    no_row (Readable b) k = true≢false k
+    no_row Unreadable k = true≢false k
 
 room_for : (session set : ℕ) (s : State) (done : BackupKind) → writes_row done ≡ true → backup_refusal session s set done ≡ None → row_of_set set s ≡ None → no_room 1 s ≡ None
 unfolding backup_refusal

@@ -12,7 +12,7 @@ use Rattle.tt_value.specs.declared.value.Value.TheVariants.{Text}
 use Rattle.tt_value.specs.declared.value.ColumnType.{ColumnType}
 use Rattle.tt_value.specs.declared.value.ColumnType.TheVariants.{BigInt, Varchar, Number as NumberOf}
 use Rattle.tt_parse.specs.declared.command.ColumnText.{ColumnText}
-use Rattle.tt_record.specs.Entries.{IsTransaction}
+use Rattle.tt_record.specs.Entry.{IsTransaction}
 use Rattle.tt_model.specs.Tables.{Table, table_named}
 use Rattle.tt_model.specs.Meaning.{Makes, first_of, no_room, refused_if}
 use Rattle.tt_model.specs.Ranges.{IsColumn, IsName, IsType}

@@ -9,16 +9,16 @@ use Rattle.tt_parse.specs.declared.command.Command.{Command}
 use Rattle.tt_parse.specs.declared.command.Command.TheVariants.{CreateTable, DropTable, CreateIndex, DropIndex, Insert, Update, Delete, Select, Commit as CommitLine, Rollback, DurableCommit, Flush, Ckpt, CkptBlocking, LogHolds, Bookmark, Backup as BackupLine, XlaCreate, XlaDelete, XlaSubscribe, XlaUnsubscribe, XlaOpen, XlaNext, XlaAcknowledge, XlaClose}
 use Rattle.tt_record.specs.declared.entry.Entry.{Entry}
 use Rattle.tt_record.specs.declared.entry.Entry.TheVariants.{Abort, Mark}
-use Rattle.tt_record.specs.Entries.{IsTransaction, length_of}
+use Rattle.tt_record.specs.Entry.{IsTransaction, length_of}
 use Rattle.tt_value.specs.Stored.{IsCell}
 use Rattle.tt_set.specs.declared.settings.Settings.{Settings}
-use Rattle.tt_model.specs.Found.{Found}
+use Rattle.tt_model.specs.Opened.{Opened}
 use Rattle.tt_model.specs.Sets.{SetStanding}
 use Rattle.tt_model.specs.Tables.{Catalog, table_named}
 use Rattle.tt_model.specs.Meaning.{Makes, meant_by_select}
 use Rattle.tt_model.specs.Meant.{meant}
 use Rattle.tt_model.specs.System.{bookmark}
-use Rattle.tt_model.specs.State.{Begun, Reader, State, all_forced, catalog, lengths_fit, live_in, next, reversals, trail, with_entry}
+use Rattle.tt_model.specs.State.{Underway, Reader, State, all_forced, catalog, lengths_fit, live_in, next, reversals, trail, with_entry}
 use Rattle.tt_model.specs.declared.definition.CellEdit.{CellEdit}
 use Rattle.tt_model.specs.Checkpoint.{copied, with_copies}
 use Rattle.tt_model.specs.Ranges.{HasRanges}
@@ -137,14 +137,14 @@ settings_forced s = refl
 -- What can be stored stays so, where settings and what opening found are the same.
 storable_still : (s after : State) → after.settings ≡ s.settings → after.found ≡ s.found → after.pages ≤ 65536 → HoldsStorable s → HoldsStorable after
 storable_still s after settings found few h = record {
-  found = subst (λ (f : Found). (q : ℕ) → IsCell (f.cells q)) (sym found) h.found;
+  found = subst (λ (f : Opened). (q : ℕ) → IsCell (f.cells q)) (sym found) h.found;
   perm_pages = subst (λ (x : Settings). x.perm_pages ≤ 65536) (sym settings) h.perm_pages;
   pages = few;
-  first = subst (λ (f : Found). 1 ≤ f.next) (sym found) h.first;
-  next = subst (λ (f : Found). f.next ≤ 2 ^ 48) (sym found) h.next;
+  first = subst (λ (f : Opened). 1 ≤ f.next) (sym found) h.first;
+  next = subst (λ (f : Opened). f.next ≤ 2 ^ 48) (sym found) h.next;
 }
 
-copied_bookmark : (name : List ℕ) (n : ℕ) (o : Option Begun) (s : State) → bookmark name (copied n o s) ≡ bookmark name s
+copied_bookmark : (name : List ℕ) (n : ℕ) (o : Option Underway) (s : State) → bookmark name (copied n o s) ≡ bookmark name s
 copied_bookmark name n None s = refl
 copied_bookmark name n (Some b) s = refl
 
@@ -187,7 +187,7 @@ found_entry : (e : Entry) (s : State) → (with_entry e s).found ≡ s.found
 unfolding with_entry
 found_entry e s = refl
 
-begun_plain : (settings : Settings) (found : Found) (files : ℕ → Bool) (sets : ℕ → Option SetStanding) → HasLogInRange (opened settings found files sets) → HoldsStorable (opened settings found files sets) →
+begun_plain : (settings : Settings) (found : Opened) (files : ℕ → Bool) (sets : ℕ → Option SetStanding) → HasLogInRange (opened settings found files sets) → HoldsStorable (opened settings found files sets) →
     lengths_fit settings.log_file_size found.end (length_of Mark ∷ []) ≡ true → HasLogInRange (begun settings found files sets) × HoldsStorable (begun settings found files sets)
 unfolding begun
 begun_plain settings found files sets log h fits =

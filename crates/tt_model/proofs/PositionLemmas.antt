@@ -3,7 +3,7 @@ use Rattle.std.proofs.Common.{◌≡◌, ℕ, ◌+◌, ◌<◌, Bool, true, fals
 use Rattle.std.specs.Cmp.{nat_cmp_is}
 use Rattle.std.specs.Ordering.{is_le, ordering_then}
 use Rattle.tt_value.specs.declared.position.Position.{Position}
-use Rattle.tt_record.specs.Places.{position, next_place}
+use Rattle.tt_record.specs.Place.{position, next_position}
 use Rattle.tt_record.specs.declared.entry.Entry.{Entry}
 use Rattle.tt_model.specs.Trail.{position_le, IsOrdered}
 use Rattle.tt_model.specs.State.{State, with_entry, write_position}
@@ -19,7 +19,7 @@ onward true end = ap is_le (ap₂ ordering_then (same_number end.file) (same_num
 onward false end = ap (λ o. is_le (ordering_then o (nat_cmp end.offset 0))) (less_number end.file (end.file + 1) (omega arith))
 
 -- A new entry stands at or behind the end of the last one.
-pub next_place-onward : (end : Position) (n size : ℕ) → position_le end (next_place end n size) ≡ true
+pub next_place-onward : (end : Position) (n size : ℕ) → position_le end (next_position end n size) ≡ true
 next_place-onward end n size = onward (nat_le (end.offset + n) size) end
 
 pub ordered-with_entry : (e : Entry) (s : State) → IsOrdered s.found.end s.entries → IsOrdered s.found.end ((with_entry e s).entries)

@@ -11,7 +11,7 @@ use Rattle.tt_record.specs.PlaceLaws.{end_behind}
 use Rattle.tt_model.specs.Trail.{Trail, Placed, IsOrdered, position_lt, position_le, position_eq, placed_end, placed_length, trail_end, before}
 use Rattle.tt_model.specs.Tables.{Subscribed, Catalog}
 use Rattle.tt_model.specs.State.{ReadPlace}
-use Rattle.tt_model.specs.Due.{DueChange, open_changes, counted, is_subscribed, marked, after_skip, due_of, due, next_hold, place_at, last_of, place_behind, read_to}
+use Rattle.tt_model.specs.Due.{DueChange, open_changes, counted, is_subscribed, marked, after_skip, due_of, due, next_hold, read_at, last_of, read_after, read_to}
 use Rattle.tt_model.proofs.OrderLemmas.{le_lt, lt_le, lt-le, le_trans, le_self, lt-not_le_back, lt-not_eq_back, not_lt-le, le-not_lt_back}
 use Rattle.tt_model.proofs.LowLemmas.{AllBefore, some_length}
 use Rattle.tt_model.proofs.HoldLemmas.{next_hold-same}
@@ -130,7 +130,7 @@ module _ (subscriptions : List Subscribed) (catalog : Catalog) where
   moved_where place at skip trail true = record { at_is = refl; skip_is = refl; hold_is = λ t es e. refl }
   moved_where place at skip trail false = record { at_is = refl; skip_is = refl; hold_is = λ t es e. next_hold-same t place.hold at es trail e }
 
-  moved : (place : ReadPlace) (at : Position) (skip : ℕ) (trail : Trail) → Moved place at skip trail (place_at place at skip trail)
+  moved : (place : ReadPlace) (at : Position) (skip : ℕ) (trail : Trail) → Moved place at skip trail (read_at place at skip trail)
   moved place at skip trail = moved_where place at skip trail (position_eq at place.at)
 
   -- ---- behind one change
@@ -234,16 +234,16 @@ module _ (subscriptions : List Subscribed) (catalog : Catalog) where
         (later_same e.at d.count np v (lt-le e.at (placed_end e) (own_end e)) (takes_behind np (placed_end e) (ap (λ p. position_lt p (placed_end e)) v.at_is ∙ own_end e)))
 
     behind_where : (c : Bool) → d.given.last ≡ c →
-        due (cond c (place_at place d.end 0 (newer ++ e ∷ es)) (place_at place d.commit d.count (newer ++ e ∷ es))) subscriptions catalog (more ++ e ∷ es)
+        due (cond c (read_at place d.end 0 (newer ++ e ∷ es)) (read_at place d.commit d.count (newer ++ e ∷ es))) subscriptions catalog (more ++ e ∷ es)
         ≡ drop (length (due place subscriptions catalog es) + suc m) (due place subscriptions catalog (more ++ e ∷ es))
     behind_where true last =
-        behind_last (place_at place d.end 0 (newer ++ e ∷ es))
-        (subst (λ (p : Position). Moved place p 0 (newer ++ e ∷ es) (place_at place d.end 0 (newer ++ e ∷ es))) given_of.end (moved place d.end 0 (newer ++ e ∷ es))) last
+        behind_last (read_at place d.end 0 (newer ++ e ∷ es))
+        (subst (λ (p : Position). Moved place p 0 (newer ++ e ∷ es) (read_at place d.end 0 (newer ++ e ∷ es))) given_of.end (moved place d.end 0 (newer ++ e ∷ es))) last
     behind_where false last =
-        behind_other (place_at place d.commit d.count (newer ++ e ∷ es))
-        (subst (λ (p : Position). Moved place p d.count (newer ++ e ∷ es) (place_at place d.commit d.count (newer ++ e ∷ es))) given_of.commit (moved place d.commit d.count (newer ++ e ∷ es)))
+        behind_other (read_at place d.commit d.count (newer ++ e ∷ es))
+        (subst (λ (p : Position). Moved place p d.count (newer ++ e ∷ es) (read_at place d.commit d.count (newer ++ e ∷ es))) given_of.commit (moved place d.commit d.count (newer ++ e ∷ es)))
 
-    behind_it : due (place_behind place (newer ++ e ∷ es) d) subscriptions catalog (more ++ e ∷ es)
+    behind_it : due (read_after place (newer ++ e ∷ es) d) subscriptions catalog (more ++ e ∷ es)
         ≡ drop (length (due place subscriptions catalog es) + suc m) (due place subscriptions catalog (more ++ e ∷ es))
     behind_it = behind_where d.given.last refl
 
@@ -255,7 +255,7 @@ module _ (subscriptions : List Subscribed) (catalog : Catalog) where
 
   head_rest : (base : Position) (place : ReadPlace) (m : ℕ) (d : DueChange) (e : Placed) (more newer es : Trail) → IsOrdered base (more ++ e ∷ es) → IsOrdered base (newer ++ e ∷ es) →
       (x : Entry) → e.entry ≡ x → nth m (due_of place subscriptions catalog e x es) ≡ Some d →
-      due (place_behind place (newer ++ e ∷ es) d) subscriptions catalog (more ++ e ∷ es) ≡ drop (length (due place subscriptions catalog es) + suc m) (due place subscriptions catalog (more ++ e ∷ es))
+      due (read_after place (newer ++ e ∷ es) d) subscriptions catalog (more ++ e ∷ es) ≡ drop (length (due place subscriptions catalog es) + suc m) (due place subscriptions catalog (more ++ e ∷ es))
   head_rest base place m d e more newer es o p (Commit t) is h =
       let parts : (position_le place.at e.at ≡ true) × (nth m (filter (after_skip place) (of_commit place.hold subscriptions catalog e t es)) ≡ Some d)
       = one_of_none place e t es m d (position_le place.at e.at) refl h in
@@ -268,7 +268,7 @@ module _ (subscriptions : List Subscribed) (catalog : Catalog) where
   -- What is due behind one change is what was due after it, also of a longer trail.
   pub read-rest : (base : Position) (place : ReadPlace) (es more newer whole trail : Trail) (m : ℕ) (d : DueChange) → whole ≡ more ++ es → trail ≡ newer ++ es →
       IsOrdered base whole → IsOrdered base trail → nth m (due place subscriptions catalog es) ≡ Some d →
-      due (place_behind place trail d) subscriptions catalog whole ≡ drop (suc m) (due place subscriptions catalog whole)
+      due (read_after place trail d) subscriptions catalog whole ≡ drop (suc m) (due place subscriptions catalog whole)
   unfolding due
   read-rest base place [] more newer whole trail m d w t o p h = let no : ⊥ = cc in absurd no
   read-rest base place (e ∷ es) more newer whole trail m d w t o p h =
@@ -278,8 +278,8 @@ module _ (subscriptions : List Subscribed) (catalog : Catalog) where
         | inr s ↦
             let count : m ≡ length (due place subscriptions catalog es) + s.at = s.place in
             let same : length (due place subscriptions catalog es) + suc s.at ≡ suc m = omega (arith, count) in
-            ap (λ (xs : Trail). due (place_behind place xs d) subscriptions catalog whole) t
-            ∙ (ap (due (place_behind place (newer ++ e ∷ es) d) subscriptions catalog) w
+            ap (λ (xs : Trail). due (read_after place xs d) subscriptions catalog whole) t
+            ∙ (ap (due (read_after place (newer ++ e ∷ es) d) subscriptions catalog) w
             ∙ (head_rest base place s.at d e more newer es (subst (IsOrdered base) w o) (subst (IsOrdered base) t p) e.entry refl s.is
             ∙ (ap (λ k. drop k (due place subscriptions catalog (more ++ e ∷ es))) same ∙ ap (λ (xs : Trail). drop (suc m) (due place subscriptions catalog xs)) (sym w))))
       ]
@@ -313,18 +313,18 @@ module _ (subscriptions : List Subscribed) (catalog : Catalog) where
         sym (ap (λ (ds : List DueChange). drop (length ds) (due place subscriptions catalog (more ++ es))) (due-before place es (all_before_place place.at es (not_lt-le place.at force l) forced)))
 
     fewer_where : (c : Bool) → position_lt place.at force ≡ c →
-        due (cond c (place_at place force 0 (newer ++ es)) place) subscriptions catalog (more ++ es) ≡ drop (length all_due_here) (due place subscriptions catalog (more ++ es))
-    fewer_where true l = at_force (place_at place force 0 (newer ++ es)) (moved place force 0 (newer ++ es)) l
+        due (cond c (read_at place force 0 (newer ++ es)) place) subscriptions catalog (more ++ es) ≡ drop (length all_due_here) (due place subscriptions catalog (more ++ es))
+    fewer_where true l = at_force (read_at place force 0 (newer ++ es)) (moved place force 0 (newer ++ es)) l
     fewer_where false l = already l
 
     given_where : (given : List DueChange) → take n all_due_here ≡ given →
-        due (elim given [ [] ↦ place | d ∷ ds ↦ place_behind place (newer ++ es) (last_of d ds) ]) subscriptions catalog (more ++ es) ≡ drop (length given) (due place subscriptions catalog (more ++ es))
+        due (elim given [ [] ↦ place | d ∷ ds ↦ read_after place (newer ++ es) (last_of d ds) ]) subscriptions catalog (more ++ es) ≡ drop (length given) (due place subscriptions catalog (more ++ es))
     given_where [] g = refl
     given_where (d ∷ ds) g =
         read-rest base place es more newer (more ++ es) (newer ++ es) (length ds) (last_of d ds) refl refl whole_in_order trail_in_order (last-taken n all_due_here d ds g)
 
     read_where : (c : Bool) → nat_lt (length (take n all_due_here)) n ≡ c →
-        due (cond c (cond (position_lt place.at force) (place_at place force 0 (newer ++ es)) place) (elim (take n all_due_here) [ [] ↦ place | d ∷ ds ↦ place_behind place (newer ++ es) (last_of d ds) ]))
+        due (cond c (cond (position_lt place.at force) (read_at place force 0 (newer ++ es)) place) (elim (take n all_due_here) [ [] ↦ place | d ∷ ds ↦ read_after place (newer ++ es) (last_of d ds) ]))
         subscriptions catalog (more ++ es) ≡ drop (length (take n all_due_here)) (due place subscriptions catalog (more ++ es))
     read_where true c =
         fewer_where (position_lt place.at force) refl

@@ -11,20 +11,20 @@ use Rattle.tt_value.specs.declared.reply.Reply.{Reply}
 use Rattle.tt_value.specs.declared.refusal.Refusal.TheVariants.{BookmarkBusy, NoMemory}
 use Rattle.tt_value.specs.declared.reply.Reply.TheVariants.{Done as DoneReply, Updates, Refused}
 use Rattle.tt_value.specs.declared.reply.Update.{Update}
-use Rattle.tt_record.specs.Places.{position}
+use Rattle.tt_record.specs.Place.{position}
 use Rattle.tt_record.specs.declared.entry.Entry.{Entry}
 use Rattle.tt_record.specs.declared.entry.Entry.TheVariants.{Change, Commit, Abort, Mark, Switch}
 use Rattle.tt_parse.specs.declared.command.Command.{Command}
 use Rattle.tt_parse.specs.declared.command.Command.TheVariants.{XlaOpen, XlaNext, XlaClose}
 use Rattle.tt_model.specs.Trail.{Trail, Placed, IsOrdered, position_le, placed_end, trail_end, oldest}
-use Rattle.tt_model.specs.Found.{Found}
+use Rattle.tt_model.specs.Opened.{Opened}
 use Rattle.tt_model.specs.Tables.{Subscribed, PlacedRow, subscriptions_of, Catalog}
 use Rattle.tt_model.specs.Due.{Done, DueChange, is_subscribed, is_last, name_in, marked, counted, after_skip, open_changes, due_of, due, read_to}
-use Rattle.tt_model.specs.State.{State, Reader, ReadPlace, Begun, at_one, trail, new_among, force_position, cells_of, bound, catalog}
+use Rattle.tt_model.specs.State.{State, Reader, ReadPlace, Underway, at_one, trail, new_among, force_position, cells_of, bound, catalog}
 use Rattle.tt_model.specs.Sound.{IsSound}
 use Rattle.tt_model.specs.System.{bookmark, reader_on}
 use Rattle.tt_model.specs.Checkpoint.{copied, with_copies}
-use Rattle.tt_model.specs.Step.{Step, Answered, Answers, WantsMemory, answer, line, given, closed, opened, open_at, refused, unless_refused, with_reader, kept_place, all_due, next_place_of, no_skip, given_to}
+use Rattle.tt_model.specs.Step.{Step, Answered, Answers, WantsMemory, answer, line, given, closed, reader_opened, open_at, refused, unless_refused, with_reader, kept_read, all_due, next_read_of, no_skip, given_to}
 use Rattle.tt_model.specs.Run.{Line}
 use Rattle.tt_model.specs.WholeRuns.{IsInOrder, updates_in, is_read, given_by, all_given, IsReading, RunReading, due_from, ReadersGoInOrder}
 use Rattle.tt_model.proofs.OrderLemmas.{le_trans, lt-le, le_self}
@@ -88,7 +88,7 @@ in_order-grows s after i g =
     record {
       found = subst IsInOrder (sym g.found) i.found;
       ordered = g.ordered i.ordered;
-      least = subst (λ (x : Found). length x.entries ≤ after.forced) (sym g.found) (omega (arith, up, low));
+      least = subst (λ (x : Opened). length x.entries ≤ after.forced) (sym g.found) (omega (arith, up, low));
       most = (g.forced i.most).1;
     }
 
@@ -144,7 +144,7 @@ module _ (s after : State) (i : LogInOrder s) (g : Grows s after) where
   later_in_order : IsOrdered s.found.end (more_forced ++ forced_new)
   later_in_order =
       subst (IsOrdered s.found.end) later_forced
-      (ordered-drop s.found.end (length after.entries - later_count) after.entries (subst (λ (x : Found). IsOrdered x.end after.entries) g.found (g.ordered i.ordered)))
+      (ordered-drop s.found.end (length after.entries - later_count) after.entries (subst (λ (x : Opened). IsOrdered x.end after.entries) g.found (g.ordered i.ordered)))
 
   now_in_order : IsOrdered s.found.end (unforced ++ forced_new)
   now_in_order = subst (IsOrdered s.found.end) entries_are i.ordered
@@ -161,7 +161,7 @@ module _ (s after : State) (i : LogInOrder s) (g : Grows s after) where
   later_whole =
       let up : s.forced ≤ after.forced = (g.forced i.most).0 in
       let low : length found_part ≤ s.forced = i.least in
-      ap (λ (x : Found). oldest after.forced (after.entries ++ x.entries)) g.found
+      ap (λ (x : Opened). oldest after.forced (after.entries ++ x.entries)) g.found
       ∙ (oldest-append after.forced after.entries found_part (omega (arith, up, low))
       ∙ (ap (λ (xs : Trail). xs ++ found_part) later_forced ∙ assoc more_forced forced_new found_part))
 
@@ -270,7 +270,7 @@ due-same place subscriptions c d n (e ∷ es) =
 pub record OwnRead (session : ℕ) (l : Line) (reply : Reply) (s : State) (r now : Reader) : Type 0 where
   pub count : ℕ
   pub gave : given_by session l reply ≡ map (λ (d : DueChange). d.given) (take count (all_due r s))
-  pub place : now.place ≡ next_place_of r count s
+  pub place : now.place ≡ next_read_of r count s
 
 pub record NoRead (session : ℕ) (l : Line) (reply : Reply) (r now : Reader) : Type 0 where
   pub gave : given_by session l reply ≡ []
@@ -308,15 +308,15 @@ given_does : (session who n : ℕ) (s : State) (r now x : Reader) → s.reader w
 given_does session who n s r now x e h k false d =
     left session _ _ s r now s.reader (((given_to who x n s).1).reader)
     (ap (λ b. cond (b && true) (map (λ (u : DueChange). u.given) (take n (all_due x s))) []) d) h k
-    (elsewhere session who (Some (record x { place = next_place_of x n s })) s.reader (flip who session d))
+    (elsewhere session who (Some (record x { place = next_read_of x n s })) s.reader (flip who session d))
 given_does session who n s r now x e h k true d =
     let mine : x ≡ r = some_reader x r (sym e ∙ (ap s.reader (eqb-true who session d) ∙ h)) in
-    let there : Some (record x { place = next_place_of x n s }) ≡ Some now
-    = sym (ap (λ c. cond c (Some (record x { place = next_place_of x n s })) (s.reader session)) (eq-eqb session who (sym (eqb-true who session d)))) ∙ k in
+    let there : Some (record x { place = next_read_of x n s }) ≡ Some now
+    = sym (ap (λ c. cond c (Some (record x { place = next_read_of x n s })) (s.reader session)) (eq-eqb session who (sym (eqb-true who session d)))) ∙ k in
     inl (record {
       count = n;
       gave = ap (λ b. cond (b && true) (map (λ (u : DueChange). u.given) (take n (all_due x s))) []) d ∙ ap (λ (y : Reader). map (λ (u : DueChange). u.given) (take n (all_due y s))) mine;
-      place = ap (λ (y : Reader). y.place) (sym (some_reader (record x { place = next_place_of x n s }) now there)) ∙ ap (λ (y : Reader). next_place_of y n s) mine;
+      place = ap (λ (y : Reader). y.place) (sym (some_reader (record x { place = next_read_of x n s }) now there)) ∙ ap (λ (y : Reader). next_read_of y n s) mine;
     })
 
 unless_does : (session who n : ℕ) (s : State) (r now x : Reader) (o : Option Refusal) → s.reader who ≡ Some x → s.reader session ≡ Some r → ((unless_refused o (given_to who x n s) s).1).reader session ≡ Some now
@@ -327,7 +327,7 @@ unless_does session who n s r now x (Some refusal) e h k = left session _ _ s r 
 read_does : (session who n : ℕ) (s : State) (r now : Reader) (o : Option Reader) → s.reader who ≡ o → s.reader session ≡ Some r → ((given who o n s).1).reader session ≡ Some now →
     Does session (record { session = who; what = Ok (XlaNext n) }) ((given who o n s).0) s r now
 read_does session who n s r now None e h k = left session _ _ s r now s.reader s.reader (nothing (nat_eq who session)) h k refl
-read_does session who n s r now (Some x) e h k = unless_does session who n s r now x (no_skip (next_place_of x n s)) e h k
+read_does session who n s r now (Some x) e h k = unless_does session who n s r now x (no_skip (next_read_of x n s)) e h k
 
 -- an open: of the session, which has a reader, it is refused
 open_leaves : (session who : ℕ) (name : List ℕ) (s : State) (o : Option PlacedRow) → nat_eq session who ≡ false → ((open_at who name o s).1).reader session ≡ s.reader session
@@ -335,11 +335,11 @@ open_leaves session who name s None n = refl
 open_leaves session who name s (Some r) n = unless_leaves (option_map BookmarkBusy (reader_on name s)) n
   where
     unless_leaves : (busy : Option Refusal) → nat_eq session who ≡ false →
-        ((unless_refused busy (DoneReply, with_reader who (Some (record { bookmark = name; place = kept_place r })) s) s).1).reader session ≡ s.reader session
-    unless_leaves None n = elsewhere session who (Some (record { bookmark = name; place = kept_place r })) s.reader n
+        ((unless_refused busy (DoneReply, with_reader who (Some (record { bookmark = name; place = kept_read r })) s) s).1).reader session ≡ s.reader session
+    unless_leaves None n = elsewhere session who (Some (record { bookmark = name; place = kept_read r })) s.reader n
     unless_leaves (Some b) n = refl
 
-opened_leaves : (session who : ℕ) (name : List ℕ) (s : State) (r : Reader) → s.reader session ≡ Some r → (c : Bool) → nat_eq session who ≡ c → ((opened who name s).1).reader session ≡ s.reader session
+opened_leaves : (session who : ℕ) (name : List ℕ) (s : State) (r : Reader) → s.reader session ≡ Some r → (c : Bool) → nat_eq session who ≡ c → ((reader_opened who name s).1).reader session ≡ s.reader session
 opened_leaves session who name s r h true e =
     ap (λ (x : Answered). (x.1).reader session)
     (ap (λ c. cond c (refused (BookmarkBusy who) s) (open_at who name (bookmark name s) s)) (ap is_some (ap s.reader (sym (eqb-true session who e)) ∙ h)))
@@ -361,7 +361,7 @@ command_does : (session who : ℕ) (command : Command) (s : State) (r now : Read
 unfolding line
 command_does session who (XlaNext n) s r now h k = read_does session who n s r now (s.reader who) refl h k
 command_does session who (XlaOpen name) s r now h k =
-    left session _ _ s r now s.reader (((opened who name s).1).reader) (no_second (nat_eq who session) _) h k (opened_leaves session who name s r h (nat_eq session who) refl)
+    left session _ _ s r now s.reader (((reader_opened who name s).1).reader) (no_second (nat_eq who session) _) h k (opened_leaves session who name s r h (nat_eq session who) refl)
 command_does session who XlaClose s r now h k =
     left session _ _ s r now s.reader (((closed who (s.reader who) s).1).reader) (no_second (nat_eq who session) _) h k (closed_leaves session who s now (s.reader who) k (nat_eq session who) refl)
 command_does session who command s r now h k =
@@ -389,7 +389,7 @@ answers_do session l s reply after r now h k (inl t) = by_what l.what (t.0) (ap 
 
 -- ---- a round
 
-due_copied : (n : ℕ) (o : Option Begun) (s : State) (r : Reader) → all_due r (copied n o s) ≡ all_due r s
+due_copied : (n : ℕ) (o : Option Underway) (s : State) (r : Reader) → all_due r (copied n o s) ≡ all_due r s
 due_copied n None s r = refl
 due_copied n (Some b) s r = refl
 
@@ -397,11 +397,11 @@ due-with_copies : (s : State) (r : Reader) → all_due r (with_copies s) ≡ all
 unfolding with_copies
 due-with_copies s r = due_copied s.settings.ckpt_pages s.underway s r
 
-place_copied : (n : ℕ) (o : Option Begun) (s : State) (r : Reader) (count : ℕ) → next_place_of r count (copied n o s) ≡ next_place_of r count s
+place_copied : (n : ℕ) (o : Option Underway) (s : State) (r : Reader) (count : ℕ) → next_read_of r count (copied n o s) ≡ next_read_of r count s
 place_copied n None s r count = refl
 place_copied n (Some b) s r count = refl
 
-place-with_copies : (s : State) (r : Reader) (count : ℕ) → next_place_of r count (with_copies s) ≡ next_place_of r count s
+place-with_copies : (s : State) (r : Reader) (count : ℕ) → next_read_of r count (with_copies s) ≡ next_read_of r count s
 unfolding with_copies
 place-with_copies s r count = place_copied s.settings.ckpt_pages s.underway s r count
 
@@ -517,7 +517,7 @@ updates_same us vs h = ap updates_in h
 
 read_gave : (session n : ℕ) (us : List Update) (s : State) (r : Reader) (o : Option Reader) → o ≡ Some r → Updates us ≡ (given session o n s).0 → us ≡ gifts (take n (all_due r s))
 read_gave session n us s r None e h = let no : ⊥ = cc in absurd no
-read_gave session n us s r (Some x) e h = by (no_skip (next_place_of x n s)) h
+read_gave session n us s r (Some x) e h = by (no_skip (next_read_of x n s)) h
   where
     by : (o : Option Refusal) → Updates us ≡ (unless_refused o (given_to session x n s) s).0 → us ≡ gifts (take n (all_due r s))
     by None h = updates_same us _ h ∙ ap (λ (y : Reader). gifts (take n (all_due y s))) (some_reader x r e)

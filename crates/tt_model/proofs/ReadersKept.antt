@@ -1,6 +1,6 @@
 -- Rows of bookmarks can keep the places of all readers: so it is over each round, and at the end of a run.
 use Rattle.std.proofs.Common.{◌≡◌, ◌≤◌, ◌-◌, ◌&&◌, ℕ, zero, suc, pos, negsuc, Bool, true, false, cond, not, nat_le, nat_lt, nat_eq, List, [], ◌∷◌, ◌++◌, map, filter, length, take, drop, Option, Some, None, Result, Ok, Err, refl, sym, ap, ◌∙◌, subst, inl, inr, true≢false, unwrap_or}
-use Rattle.std.proofs.lemmas.Bool.{leb-true, ltb-false}
+use Rattle.std.proofs.lemmas.Bool.{leb-true, ltb-false, and_parts}
 use Rattle.std.specs.Prelude.{is_some, option_map}
 use Rattle.tt_value.specs.declared.position.Position.{Position}
 use Rattle.tt_value.specs.declared.refusal.Refusal.{Refusal}
@@ -12,26 +12,23 @@ use Rattle.tt_parse.specs.declared.command.Command.TheVariants.{XlaClose, XlaNex
 use Rattle.tt_record.specs.declared.entry.Entry.{Entry}
 use Rattle.tt_record.specs.declared.entry.Entry.TheVariants.{Abort, Change, Commit, Mark, Switch}
 use Rattle.tt_model.specs.Trail.{Placed, Trail, before, oldest, placed_end, position_eq, position_le, position_lt, trail_end}
-use Rattle.tt_model.specs.Tables.{Catalog, PlacedRow, Subscribed}
-use Rattle.tt_model.specs.Due.{Done, DueChange, after_skip, counted, due, due_of, is_subscribed, last_of, marked, next_hold, open_after, open_changes, opened_by, place_at, place_behind, read_to, still_open}
+use Rattle.tt_model.specs.Tables.{Catalog, PlacedRow, Subscribed, whole_number_of}
+use Rattle.tt_model.specs.Due.{Done, DueChange, after_skip, counted, due, due_of, is_subscribed, last_of, marked, next_hold, open_after, open_changes, opened_by, read_at, read_after, read_to, still_open}
 use Rattle.tt_model.specs.System.{bookmark, reader_on}
-use Rattle.tt_model.specs.State.{ReadPlace, Reader, State, at_one, force_position, live_in, new_among, reversals, trail, with_edit, with_edits, with_entry}
+use Rattle.tt_model.specs.State.{ReadPlace, Reader, State, at_one, force_position, live_in, new_among, reversals, trail, with_edit, with_edits, with_entry, all_forced}
 use Rattle.tt_model.specs.declared.definition.CellEdit.{CellEdit}
 use Rattle.tt_model.specs.Checkpoint.{with_copies}
 use Rattle.tt_value.specs.declared.value.Value.{Value}
 use Rattle.tt_value.specs.declared.value.Value.TheVariants.{Int, Null, Number, Text}
 use Rattle.tt_value.specs.declared.value.Row.{Row}
 use Rattle.tt_model.specs.Holders.{value_at}
-use Rattle.tt_model.specs.Tables.{whole_number_of}
 use Rattle.tt_model.specs.Meaning.{refused_if}
-use Rattle.tt_model.specs.Damages.{Bookmarks, are_taken, column_tests, is_log_file, is_log_offset, is_name_text, is_number_from}
+use Rattle.tt_model.specs.Damage.{Bookmarks, are_taken, column_tests, is_log_file, is_log_offset, is_name_text, is_number_from}
 use Rattle.tt_model.proofs.GoodDeletes.{HasGood}
 use Rattle.tt_model.proofs.GoodTaken.{good-taken}
-use Rattle.std.proofs.lemmas.Bool.{and_parts}
 use Rattle.tt_model.proofs.SystemLines.{bookmark-lies}
-use Rattle.tt_model.specs.State.{all_forced}
-use Rattle.tt_model.specs.Step.{Answers, Step, all_due, closed, given, given_to, kept_place, line, next_place_of, no_skip, open_at, opened, refused, unless_refused, with_reader}
-use Rattle.tt_model.specs.Run.{ended, ended_one, has_place, roll_all}
+use Rattle.tt_model.specs.Step.{Answers, Step, all_due, closed, given, given_to, kept_read, line, next_read_of, no_skip, open_at, reader_opened, refused, unless_refused, with_reader}
+use Rattle.tt_model.specs.Run.{ended, ended_one, has_position, roll_all}
 use Rattle.tt_model.specs.WholeRuns.{Each}
 use Rattle.tt_model.specs.Entries.{HasKeptReaders, HasLogInRange, IsKept}
 use Rattle.tt_model.proofs.GrowLemmas.{readers-command, readers-completion_after, readers-memory, readers-with_copies}
@@ -87,9 +84,9 @@ within_front : (es older : Trail) → Each IsWithin (es ++ older) → Each IsWit
 within_front [] older h = tt
 within_front (e ∷ es) older h = (h.0, within_front es older (h.1))
 
-end_kept : (opened : Position) (es : Trail) → IsKept opened → Each IsWithin es → IsKept (trail_end opened es)
-end_kept opened [] k h = k
-end_kept opened (e ∷ es) k h = (h.0).1
+end_kept : (reader_opened : Position) (es : Trail) → IsKept reader_opened → Each IsWithin es → IsKept (trail_end reader_opened es)
+end_kept reader_opened [] k h = k
+end_kept reader_opened (e ∷ es) k h = (h.0).1
 
 force_kept : (s : State) → HasLogInRange s → IsKept (force_position s)
 force_kept s h =
@@ -141,7 +138,7 @@ hold_kept hold at es h k a =
 abbrev IsPlaceKept : ReadPlace → Type 0
 IsPlaceKept place = IsKept place.at × IsKept place.hold
 
-place_kept : (place : ReadPlace) (at : Position) (skip : ℕ) (es : Trail) → IsPlaceKept place → IsKept at → AreKept es → IsPlaceKept (place_at place at skip es)
+place_kept : (place : ReadPlace) (at : Position) (skip : ℕ) (es : Trail) → IsPlaceKept place → IsKept at → AreKept es → IsPlaceKept (read_at place at skip es)
 place_kept place at skip es p k a = by (position_eq at place.at)
   where
     by : (c : Bool) → IsPlaceKept (cond c (record { at = at; skip = skip; hold = place.hold }) (record { at = at; skip = skip; hold = next_hold place.hold at es }))
@@ -181,29 +178,29 @@ last_kept : (d : DueChange) (ds : List DueChange) → IsDueKept d → Each IsDue
 last_kept d [] k h = k
 last_kept d (e ∷ es) k h = last_kept e es (h.0) (h.1)
 
-behind_kept : (place : ReadPlace) (es : Trail) (d : DueChange) → IsPlaceKept place → AreKept es → IsDueKept d → IsPlaceKept (place_behind place es d)
+behind_kept : (place : ReadPlace) (es : Trail) (d : DueChange) → IsPlaceKept place → AreKept es → IsDueKept d → IsPlaceKept (read_after place es d)
 behind_kept place es d p a k = by d.given.last
   where
-    by : (c : Bool) → IsPlaceKept (cond c (place_at place d.end 0 es) (place_at place d.commit d.count es))
+    by : (c : Bool) → IsPlaceKept (cond c (read_at place d.end 0 es) (read_at place d.commit d.count es))
     by true = place_kept place d.end 0 es p (k.1) a
     by false = place_kept place d.commit d.count es p (k.0) a
 
 read_kept : (place : ReadPlace) (n : ℕ) (force : Position) (es : Trail) (ds : List DueChange) → IsPlaceKept place → IsKept force → AreKept es → Each IsDueKept ds → IsPlaceKept (read_to place n force es ds)
 read_kept place n force es ds p f a k = by (nat_lt (length ds) n)
   where
-    onward : (c : Bool) → IsPlaceKept (cond c (place_at place force 0 es) place)
+    onward : (c : Bool) → IsPlaceKept (cond c (read_at place force 0 es) place)
     onward true = place_kept place force 0 es p f a
     onward false = p
 
-    behind : (ds : List DueChange) → Each IsDueKept ds → IsPlaceKept (elim ds as (λ x. ReadPlace) [ [] ↦ place | d ∷ rest ↦ place_behind place es (last_of d rest) ])
+    behind : (ds : List DueChange) → Each IsDueKept ds → IsPlaceKept (elim ds as (λ x. ReadPlace) [ [] ↦ place | d ∷ rest ↦ read_after place es (last_of d rest) ])
     behind [] k = p
     behind (d ∷ rest) k = behind_kept place es (last_of d rest) p a (last_kept d rest (k.0) (k.1))
 
-    by : (c : Bool) → IsPlaceKept (cond c (cond (position_lt place.at force) (place_at place force 0 es) place) (elim ds as (λ x. ReadPlace) [ [] ↦ place | d ∷ rest ↦ place_behind place es (last_of d rest) ]))
+    by : (c : Bool) → IsPlaceKept (cond c (cond (position_lt place.at force) (read_at place force 0 es) place) (elim ds as (λ x. ReadPlace) [ [] ↦ place | d ∷ rest ↦ read_after place es (last_of d rest) ]))
     by true = onward (position_lt place.at force)
     by false = behind ds k
 
-next_kept : (s : State) (r : Reader) (n : ℕ) → HasLogInRange s → IsPlaceKept r.place → IsPlaceKept (next_place_of r n s)
+next_kept : (s : State) (r : Reader) (n : ℕ) → HasLogInRange s → IsPlaceKept r.place → IsPlaceKept (next_read_of r n s)
 next_kept s r n h p =
     let all : Each IsWithin (trail s) = within s (trail s) [] h refl in
     read_kept r.place n (force_position s) (trail s) (take n (all_due r s)) p (force_kept s h) (ats_within (trail s) all)
@@ -281,7 +278,7 @@ some_is r x is = ap (λ o. unwrap_or o x) is
 open_at_kept : (session : ℕ) (name : List ℕ) (s : State) (o : Option PlacedRow) → HasGood s → bookmark name s ≡ o → AreReadersKept s.reader → AreReadersKept (((open_at session name o s).1).reader)
 open_at_kept session name s None g is h = h
 open_at_kept session name s (Some found) g is h =
-    let x : Reader = record { bookmark = name; place = kept_place found } in
+    let x : Reader = record { bookmark = name; place = kept_read found } in
     let row : IsRowKept (found.1) = row_kept (found.1) (good-taken s Bookmarks (found.0) (found.1) g (bookmark-lies name s found is)) in
     let kept : IsReaderKept x = (record { file = row.file; offset = row.offset }, record { file = row.hold_file; offset = row.hold_offset }, row.skip) in
     unless_kept (option_map BookmarkBusy (reader_on name s)) DoneReply (with_reader session (Some x) s) s h
@@ -302,7 +299,7 @@ skip_most place none = by (nat_lt 4294967295 place.skip) refl none
 given_kept : (session : ℕ) (o : Option Reader) (n : ℕ) (s : State) → s.reader session ≡ o → HasLogInRange s → AreReadersKept s.reader → AreReadersKept (((given session o n s).1).reader)
 given_kept session None n s is log h = h
 given_kept session (Some r) n s is log h =
-    let place : ReadPlace = next_place_of r n s in
+    let place : ReadPlace = next_read_of r n s in
     let moved : Reader = record r { place = place } in
     let kept : IsPlaceKept place = next_kept s r n log ((h session r is).0, (h session r is).1) in
     unless_kept (no_skip place) ((given_to session r n s).0) ((given_to session r n s).1) s h
@@ -353,7 +350,7 @@ readers_by s next false h = refl
 readers_all : (ts : List ℕ) (s : State) → ((roll_all ts s).1).reader ≡ s.reader
 unfolding all_forced
 readers_all [] s = refl
-readers_all (t ∷ ts) s = readers_by s (roll_all ts (ended_one t s)) (has_place t s) (readers_all ts (ended_one t s) ∙ readers_one t s)
+readers_all (t ∷ ts) s = readers_by s (roll_all ts (ended_one t s)) (has_position t s) (readers_all ts (ended_one t s) ∙ readers_one t s)
 
 pub readers_kept-ended : (s : State) → HasKeptReaders s → HasKeptReaders ((ended s).1)
 unfolding ended

@@ -18,7 +18,7 @@ use Rattle.tt_model.specs.Checkpoint.{begin_checkpoint, with_all_copies, with_co
 use Rattle.tt_model.specs.Meaning.{Meant, Refuses, Gives, Makes}
 use Rattle.tt_model.specs.System.{bookmark, reader_on}
 use Rattle.tt_model.specs.Backups.{backup_refusal, kind_done}
-use Rattle.tt_model.specs.Step.{Step, Answers, Answered, WantsMemory, answer, backed_up, backup_kind, backup_place, begun_reply, checkpoint_open, closed, commit_of, completion_after, edit_length, end_length, forces_first, given, given_to, next_place_of, no_skip, is_refused, least_open, line, made, made_in, no_checkpoint_number, no_number_for, no_place, no_system_place, number_for, open_at, refused, rollback_lengths, rollback_of, rolled_back, settled, statement, system, system_done, unless_refused}
+use Rattle.tt_model.specs.Step.{Step, Answers, Answered, WantsMemory, answer, backed_up, backup_kind, backup_position, begun_reply, checkpoint_open, closed, commit_of, completion_after, edit_length, end_length, forces_first, given, given_to, next_read_of, no_skip, is_refused, least_open, line, made, made_in, no_checkpoint_number, no_number_for, no_position, no_system_position, number_for, open_at, refused, rollback_lengths, rollback_of, rolled_back, session_ended, statement, system, system_done, unless_refused}
 use Rattle.tt_model.specs.StepLaws.{RefusedLinesLeaveAll, StepsAreDetermined, forces_before}
 
 -- ---- lines
@@ -33,7 +33,7 @@ left_unless (Some r) a s isnt is = refl
 left_made : (session : ℕ) (edits : List CellEdit) (s : State) → LeavesWhereRefused (made session edits s) s
 left_made session [] s is = refl
 left_made session (e ∷ es) s is =
-    left_unless (option_or (no_number_for (s.own session) s) (no_place (map edit_length (e ∷ es)) s)) (Changed (suc (length es)), made_in session (number_for (s.own session) s) (e ∷ es) s) s refl is
+    left_unless (option_or (no_number_for (s.own session) s) (no_position (map edit_length (e ∷ es)) s)) (Changed (suc (length es)), made_in session (number_for (s.own session) s) (e ∷ es) s) s refl is
 
 left_statement : (session : ℕ) (m : Meant) (s : State) → LeavesWhereRefused (statement session m s) s
 left_statement session (Refuses r) s is = refl
@@ -42,16 +42,16 @@ left_statement session (Makes edits) s is = left_made session edits s is
 
 left_commit : (session : ℕ) (o : Option ℕ) (s : State) → LeavesWhereRefused (commit_of session o s) s
 left_commit session None s is = absurd (true≢false (sym is))
-left_commit session (Some t) s is = left_unless (no_place (end_length ∷ []) s) _ s refl is
+left_commit session (Some t) s is = left_unless (no_position (end_length ∷ []) s) _ s refl is
 
 left_rollback : (session : ℕ) (o : Option ℕ) (s : State) → LeavesWhereRefused (rollback_of session o s) s
 left_rollback session None s is = absurd (true≢false (sym is))
-left_rollback session (Some t) s is = left_unless (no_place (rollback_lengths t s) s) (Done, settled session (rolled_back t s)) s refl is
+left_rollback session (Some t) s is = left_unless (no_position (rollback_lengths t s) s) (Done, session_ended session (rolled_back t s)) s refl is
 
 left_system : (m : Meant) (s : State) → LeavesWhereRefused (system m s) s
 left_system (Refuses r) s is = refl
 left_system (Gives rows) s is = refl
-left_system (Makes edits) s is = left_unless (no_system_place edits s) (Done, system_done edits s) s refl is
+left_system (Makes edits) s is = left_unless (no_system_position edits s) (Done, system_done edits s) s refl is
 
 left_open : (session : ℕ) (name : List ℕ) (o : Option PlacedRow) (s : State) → LeavesWhereRefused (open_at session name o s) s
 left_open session name None s is = refl
@@ -63,7 +63,7 @@ left_opened session name s false is = left_open session name (bookmark name s) s
 
 left_given : (session : ℕ) (o : Option Reader) (n : ℕ) (s : State) → LeavesWhereRefused (given session o n s) s
 left_given session None n s is = refl
-left_given session (Some r) n s is = left_unless (no_skip (next_place_of r n s)) (given_to session r n s) s refl is
+left_given session (Some r) n s is = left_unless (no_skip (next_read_of r n s)) (given_to session r n s) s refl is
 
 left_closed : (session : ℕ) (o : Option Reader) (s : State) → LeavesWhereRefused (closed session o s) s
 left_closed session None s is = refl
@@ -77,7 +77,7 @@ backs_up set Stop s = refl
 backs_up set IncrOrFull s = refl
 
 left_backup : (session set : ℕ) (kind : BackupKind) (s : State) → LeavesWhereRefused (backup_kind session set kind s) s
-left_backup session set kind s is = left_unless (option_or (backup_refusal session s set kind) (backup_place set kind s)) (backed_up set kind s) s (backs_up set kind s) is
+left_backup session set kind s is = left_unless (option_or (backup_refusal session s set kind) (backup_position set kind s)) (backed_up set kind s) s (backs_up set kind s) is
 
 line_left : (session : ℕ) (command : Command) (s : State) → LeavesWhereRefused (line session command s) s
 unfolding line

@@ -7,8 +7,8 @@ use Rattle.tt_value.specs.declared.value.Cell.{Cell}
 use Rattle.tt_value.specs.declared.position.Position.{Position}
 use Rattle.tt_record.specs.declared.entry.Entry.{Entry}
 use Rattle.tt_record.specs.declared.entry.Entry.TheVariants.{Change, Commit, Abort, Mark, Switch}
-use Rattle.tt_record.specs.Entries.{length_of}
-use Rattle.tt_record.specs.Places.{next_place}
+use Rattle.tt_record.specs.Entry.{length_of}
+use Rattle.tt_record.specs.Place.{next_position}
 use Rattle.tt_model.specs.Trail.{Trail}
 use Rattle.tt_model.specs.Committed.{Cells, changed, changed_by, committed, current}
 use Rattle.tt_model.specs.Live.{live, is_live, touched, names}
@@ -131,7 +131,7 @@ module _ (base : Cells) (t : ℕ) (all : Trail) (g : IsGrown base all) (l : is_l
   rolls_change newer older at u p b a is ih true e s r =
       let k : u ≡ t = sym (eqb-true t u e) in
       ih (with_entry (Change t p a b) s)
-      (rolled-own newer older s.entries at (next_place (write_position s) (length_of (Change t p a b)) s.settings.log_file_size) p b a
+      (rolled-own newer older s.entries at (next_position (write_position s) (length_of (Change t p a b)) s.settings.log_file_size) p b a
       (subst (λ v. all ≡ newer ++ (at_place at (Change v p b a) ∷ older)) k is)
       (subst (λ v. IsRolledTo base t all (at_place at (Change v p b a) ∷ older) s.entries) k r))
   rolls_change newer older at u p b a is ih false e s r =

@@ -7,7 +7,7 @@ use Rattle.tt_parse.specs.declared.command.Command.{Command}
 use Rattle.tt_parse.specs.declared.command.Command.TheVariants.{CkptBlocking}
 use Rattle.tt_record.specs.declared.entry.Entry.{Entry}
 use Rattle.tt_model.specs.Trail.{Placed}
-use Rattle.tt_model.specs.State.{State, Begun, all_forced}
+use Rattle.tt_model.specs.State.{State, Underway, all_forced}
 use Rattle.tt_model.specs.Checkpoint.{with_copies}
 use Rattle.tt_model.specs.Step.{Step, Answers, WantsMemory, answer, line, completion_after}
 use Rattle.tt_model.specs.Run.{ended}
@@ -30,7 +30,7 @@ same_forced : (s : State) → SameEntries s (all_forced s)
 unfolding all_forced
 same_forced s = refl
 
-pub entries-completion : (o : Option Begun) (s : State) → SameEntries s (completion_after o s)
+pub entries-completion : (o : Option Underway) (s : State) → SameEntries s (completion_after o s)
 entries-completion o s = completion-through SameEntries (λ a b c x y. y ∙ x) same_forced (λ a b x. x.entries) o s
 
 -- A property of the new entries is one of states that have the same.

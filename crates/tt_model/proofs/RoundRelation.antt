@@ -8,11 +8,10 @@ use Rattle.tt_value.specs.declared.reply.Reply.{Reply}
 use Rattle.tt_parse.specs.declared.command.Command.{Command}
 use Rattle.tt_parse.specs.declared.command.Command.TheVariants.{Ckpt, CkptBlocking}
 use Rattle.tt_record.specs.declared.entry.Entry.{Entry}
-use Rattle.tt_model.specs.State.{State, Begun, live_in, with_entry, all_forced}
+use Rattle.tt_model.specs.State.{State, Underway, live_in, with_entry, all_forced}
 use Rattle.tt_model.specs.Checkpoint.{begin_checkpoint, copied, with_copies, with_all_copies, complete_where_due, completed, with_completion}
-use Rattle.tt_model.specs.Step.{Step, Answers, WantsMemory, answer, line, unless_refused, checkpoint_open, no_checkpoint_number, least_open, completion_after}
-use Rattle.tt_model.specs.Run.{Line, Run, has_place, ended_one, roll_all, ended}
-use Rattle.tt_model.specs.Step.{rolled_back}
+use Rattle.tt_model.specs.Step.{Step, Answers, WantsMemory, answer, line, unless_refused, checkpoint_open, no_checkpoint_number, least_open, completion_after, rolled_back}
+use Rattle.tt_model.specs.Run.{Line, Run, has_position, ended_one, roll_all, ended}
 use Rattle.tt_model.proofs.LineRelation.{is_checkpoint, beside, line-through, rolled-through}
 
 -- Two states have one trail, forced as far.
@@ -26,7 +25,7 @@ pub record SameTrail (s after : State) : Type 0 where
 pub same_trail : (s : State) → SameTrail s s
 same_trail s = record { settings = refl; found = refl; entries = refl; forced = refl; pages = refl }
 
-same-copied : (n : ℕ) (o : Option Begun) (s : State) → SameTrail s (copied n o s)
+same-copied : (n : ℕ) (o : Option Underway) (s : State) → SameTrail s (copied n o s)
 same-copied n None s = same_trail s
 same-copied n (Some b) s = record { settings = refl; found = refl; entries = refl; forced = refl; pages = refl }
 
@@ -42,18 +41,18 @@ same-begin : (s : State) → SameTrail s (begin_checkpoint s)
 unfolding begin_checkpoint
 same-begin s = record { settings = refl; found = refl; entries = refl; forced = refl; pages = refl }
 
-same-completed : (b : Begun) (s : State) → SameTrail (all_forced s) (completed b s)
+same-completed : (b : Underway) (s : State) → SameTrail (all_forced s) (completed b s)
 unfolding completed all_forced
 same-completed b s = record { settings = refl; found = refl; entries = refl; forced = refl; pages = refl }
 
 -- A relation that goes through forces and through what stands beside the trail goes through copies and completions.
 module _ (R : State → State → Type 0) (then : (s mid after : State) → R s mid → R mid after → R s after) (force : (s : State) → R s (all_forced s))
     (other : (s after : State) → SameTrail s after → R s after) where
-  r-due : (b : Begun) (s : State) (c : Bool) → R s (cond c (completed b s) s)
+  r-due : (b : Underway) (s : State) (c : Bool) → R s (cond c (completed b s) s)
   r-due b s true = then s (all_forced s) (completed b s) (force s) (other (all_forced s) (completed b s) (same-completed b s))
   r-due b s false = other s s (same_trail s)
 
-  r-where : (o : Option Begun) (s : State) → R s (complete_where_due o s)
+  r-where : (o : Option Underway) (s : State) → R s (complete_where_due o s)
   r-where None s = other s s (same_trail s)
   r-where (Some b) s = r-due b s (length b.left == 0)
 
@@ -61,7 +60,7 @@ module _ (R : State → State → Type 0) (then : (s mid after : State) → R s 
   unfolding with_completion
   r-completion s = r-where s.underway s
 
-  pub completion-through : (o : Option Begun) (s : State) → R s (completion_after o s)
+  pub completion-through : (o : Option Underway) (s : State) → R s (completion_after o s)
   completion-through None s = other s s (same_trail s)
   completion-through (Some b) s = r-completion s
 
@@ -136,7 +135,7 @@ module _ (R : State → State → Type 0) (then : (s mid after : State) → R s 
 
   r-all : (ts : List ℕ) (s : State) → R s ((roll_all ts s).1)
   r-all [] s = force s
-  r-all (t ∷ ts) s = r-next t ts s (r-all ts) (has_place t s)
+  r-all (t ∷ ts) s = r-next t ts s (r-all ts) (has_position t s)
 
   pub end-through : (s : State) → R s ((ended s).1)
   unfolding ended

@@ -14,7 +14,7 @@ use Rattle.tt_model.specs.Committed.{Cells, is_full}
 use Rattle.tt_model.specs.Live.{numbers_below}
 use Rattle.tt_model.specs.Holders.{Held, value_at}
 use Rattle.tt_model.specs.Tables.{Catalog, PlacedRow, Table, by_number, catalog_of, column_of, in_order, inserted, number_at, rows_of, table_of, table_with, whole_number_of, with_number_at}
-use Rattle.tt_model.specs.Damages.{SystemTable, Tables, Columns, Bookmarks, are_taken, breaks_catalog, column_tests, columns_with, first_bad_catalog, has_key_before, has_name_before, has_wrong_columns, has_wrong_positions, has_wrong_size, has_wrong_values, id_of, is_bad_catalog_at, is_bad_catalog_row, is_free_key, is_number_from, is_past_limit, is_table_id, lacks_bookmark, lacks_table}
+use Rattle.tt_model.specs.Damage.{SystemTable, Tables, Columns, Bookmarks, are_taken, breaks_catalog, column_tests, columns_with, first_bad_catalog, has_key_before, has_name_before, has_wrong_columns, has_wrong_positions, has_wrong_size, has_wrong_values, id_of, is_bad_catalog_at, is_bad_catalog_row, is_free_key, is_number_from, is_past_limit, is_table_id, lacks_bookmark, lacks_table}
 use Rattle.tt_model.specs.WholeRuns.{Each}
 use Rattle.tt_model.proofs.BookmarkLines.{among}
 use Rattle.tt_model.proofs.BoundLemmas.{LieBelow}

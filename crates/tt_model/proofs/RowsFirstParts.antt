@@ -13,16 +13,16 @@ use Rattle.tt_parse.specs.declared.command.BackupKind.TheVariants.{Full, FullEna
 use Rattle.tt_record.specs.declared.entry.Entry.TheVariants.{Abort, Commit}
 use Rattle.tt_model.specs.Trail.{Trail}
 use Rattle.tt_model.specs.Committed.{Cells, committed}
-use Rattle.tt_model.specs.Sets.{Sound, SetStanding}
+use Rattle.tt_model.specs.Sets.{Readable, SetStanding}
 use Rattle.tt_model.specs.Tables.{PlacedRow}
-use Rattle.tt_model.specs.State.{Begun, Reader, State, all_forced, cells_of, live_in, new_among, next, reversals, trail, with_edit, with_edits, with_entry, write_position}
+use Rattle.tt_model.specs.State.{Underway, Reader, State, all_forced, cells_of, live_in, new_among, next, reversals, trail, with_edit, with_edits, with_entry, write_position}
 use Rattle.tt_model.specs.declared.definition.CellEdit.{CellEdit}
 use Rattle.tt_model.specs.Meaning.{Gives, Makes, Meant, Refuses}
 use Rattle.tt_model.specs.System.{bookmark, deletes, reader_on}
 use Rattle.tt_model.specs.Backups.{backup_refusal, extended_now, full_now, kind_done, row_of_set, set_edit, with_set}
 use Rattle.tt_model.specs.Checkpoint.{begin_checkpoint, complete_where_due, completed, copied, with_all_copies, with_completion, with_copies}
-use Rattle.tt_model.specs.Step.{Answers, Step, backed_up, backup_kind, backup_place, begun_reply, checkpoint_open, closed, commit_of, completion_after, edit_length, end_length, forced_where, given, given_to, is_durable, kept_place, least_open, line, made, made_in, next_place_of, no_checkpoint_number, no_number_for, no_place, no_skip, no_system_place, number_for, open_at, refused, rollback_lengths, rollback_of, rolled_back, settled, statement, system, system_done, unless_refused, with_reader}
-use Rattle.tt_model.specs.Run.{ended, ended_one, has_place, roll_all}
+use Rattle.tt_model.specs.Step.{Answers, Step, backed_up, backup_kind, backup_position, begun_reply, checkpoint_open, closed, commit_of, completion_after, edit_length, end_length, forced_where, given, given_to, is_durable, kept_read, least_open, line, made, made_in, next_read_of, no_checkpoint_number, no_number_for, no_position, no_skip, no_system_position, number_for, open_at, refused, rollback_lengths, rollback_of, rolled_back, session_ended, statement, system, system_done, unless_refused, with_reader}
+use Rattle.tt_model.specs.Run.{ended, ended_one, has_position, roll_all}
 
 -- Each first part of the new entries has it, by what is committed there.
 abbrev pub FirstPartsHave : (Cells → Type 0) → Cells → Trail → Type 0
@@ -74,7 +74,7 @@ module _ (Q : Cells → Type 0) where
   unfolding Adds
   adds_made session [] s h = self s h
   adds_made session (e ∷ es) s h =
-      unless (option_or (no_number_for (s.own session) s) (no_place (map edit_length (e ∷ es)) s)) _ (made_in session (number_for (s.own session) s) (e ∷ es) s) s h
+      unless (option_or (no_number_for (s.own session) s) (no_position (map edit_length (e ∷ es)) s)) _ (made_in session (number_for (s.own session) s) (e ∷ es) s) s h
       (λ q. edits_have (number_for (s.own session) s) (e ∷ es) s h)
 
   adds_statement : (session : ℕ) (m : Meant) (s : State) → StateHas Q s → Adds ((statement session m s).1)
@@ -87,7 +87,7 @@ module _ (Q : Cells → Type 0) where
   adds_commit session None s h = forced (is_durable session s) s (self s h)
   adds_commit session (Some t) s h =
       let mid : State = with_entry (Commit t) s in
-      unless (no_place (end_length ∷ []) s) Done (settled session (forced_where (is_durable session s) mid)) s h (forced (is_durable session s) mid (commit_adds t s h))
+      unless (no_position (end_length ∷ []) s) Done (session_ended session (forced_where (is_durable session s) mid)) s h (forced (is_durable session s) mid (commit_adds t s h))
 
   rolled_has : (t : ℕ) (s : State) → StateHas Q s → StateHas Q (rolled_back t s)
   rolled_has t s h = abort_has t (with_edits t (reversals t s.entries) s) (edits_have t (reversals t s.entries) s h)
@@ -95,7 +95,7 @@ module _ (Q : Cells → Type 0) where
   adds_rollback : (session : ℕ) (o : Option ℕ) (s : State) → StateHas Q s → Adds ((rollback_of session o s).1)
   unfolding Adds
   adds_rollback session None s h = self s h
-  adds_rollback session (Some t) s h = unless (no_place (rollback_lengths t s) s) Done (settled session (rolled_back t s)) s h (λ q. rolled_has t s h)
+  adds_rollback session (Some t) s h = unless (no_position (rollback_lengths t s) s) Done (session_ended session (rolled_back t s)) s h (λ q. rolled_has t s h)
 
   adds_done : (edits : List CellEdit) (s : State) → StateHas Q s → Adds (system_done edits s)
   adds_done edits s h =
@@ -105,7 +105,7 @@ module _ (Q : Cells → Type 0) where
   adds_system : (m : Meant) (s : State) → StateHas Q s → Adds ((system m s).1)
   adds_system (Refuses r) s h = self s h
   adds_system (Gives rows) s h = self s h
-  adds_system (Makes edits) s h = unless (no_system_place edits s) Done (system_done edits s) s h (adds_done edits s h)
+  adds_system (Makes edits) s h = unless (no_system_position edits s) Done (system_done edits s) s h (adds_done edits s h)
 
   -- ---- backups
 
@@ -122,15 +122,15 @@ module _ (Q : Cells → Type 0) where
   adds_set set standing s h = adds_done (set_edit (row_of_set set s) set (write_position s) ∷ []) (with_set set standing (all_forced s)) (set_has set standing s h)
 
   adds_backed_up : (set : ℕ) (kind : BackupKind) (s : State) → StateHas Q s → Adds ((backed_up set kind s).1)
-  adds_backed_up set Full s h = self (with_set set (Some (Sound (full_now s))) (all_forced s)) (set_has set (Some (Sound (full_now s))) s h)
-  adds_backed_up set FullEnable s h = adds_set set (Some (Sound (full_now s))) s h
+  adds_backed_up set Full s h = self (with_set set (Some (Readable (full_now s))) (all_forced s)) (set_has set (Some (Readable (full_now s))) s h)
+  adds_backed_up set FullEnable s h = adds_set set (Some (Readable (full_now s))) s h
   adds_backed_up set Incremental s h = adds_set set (extended_now (s.sets set) s) s h
   adds_backed_up set Stop s h = adds_stop s (row_of_set set s) h
   adds_backed_up set IncrOrFull s h = self s h
 
   adds_backup : (session set : ℕ) (kind : BackupKind) (s : State) → StateHas Q s → Adds ((backup_kind session set kind s).1)
   adds_backup session set kind s h =
-      unless (option_or (backup_refusal session s set kind) (backup_place set kind s)) ((backed_up set kind s).0) ((backed_up set kind s).1) s h (adds_backed_up set kind s h)
+      unless (option_or (backup_refusal session s set kind) (backup_position set kind s)) ((backed_up set kind s).0) ((backed_up set kind s).1) s h (adds_backed_up set kind s h)
 
   -- ---- readers and checkpoints
 
@@ -138,7 +138,7 @@ module _ (Q : Cells → Type 0) where
   unfolding Adds
   adds_open_at session name None s h = self s h
   adds_open_at session name (Some r) s h =
-      unless (option_map BookmarkBusy (reader_on name s)) Done (with_reader session (Some (record { bookmark = name; place = kept_place r })) s) s h (self s h)
+      unless (option_map BookmarkBusy (reader_on name s)) Done (with_reader session (Some (record { bookmark = name; place = kept_read r })) s) s h (self s h)
 
   adds_opened : (session : ℕ) (name : List ℕ) (s : State) (c : Bool) → StateHas Q s → Adds ((cond c (refused (BookmarkBusy session) s) (open_at session name (bookmark name s) s)).1)
   adds_opened session name s true h = self s h
@@ -147,14 +147,14 @@ module _ (Q : Cells → Type 0) where
   adds_given : (session : ℕ) (o : Option Reader) (n : ℕ) (s : State) → StateHas Q s → Adds ((given session o n s).1)
   unfolding Adds
   adds_given session None n s h = self s h
-  adds_given session (Some r) n s h = unless (no_skip (next_place_of r n s)) ((given_to session r n s).0) ((given_to session r n s).1) s h (self s h)
+  adds_given session (Some r) n s h = unless (no_skip (next_read_of r n s)) ((given_to session r n s).0) ((given_to session r n s).1) s h (self s h)
 
   adds_closed : (session : ℕ) (o : Option Reader) (s : State) → StateHas Q s → Adds ((closed session o s).1)
   unfolding Adds
   adds_closed session None s h = self s h
   adds_closed session (Some r) s h = self s h
 
-  through_copied : (n : ℕ) (o : Option Begun) (s : State) → Adds s → Adds (copied n o s)
+  through_copied : (n : ℕ) (o : Option Underway) (s : State) → Adds s → Adds (copied n o s)
   unfolding Adds
   through_copied n None s a = a
   through_copied n (Some b) s a = a
@@ -167,15 +167,15 @@ module _ (Q : Cells → Type 0) where
   unfolding Adds begin_checkpoint
   through_begin s a = a
 
-  through_completed : (b : Begun) (s : State) → Adds s → Adds (completed b s)
+  through_completed : (b : Underway) (s : State) → Adds s → Adds (completed b s)
   unfolding Adds completed all_forced
   through_completed b s a = a
 
-  through_due : (b : Begun) (s : State) (c : Bool) → Adds s → Adds (if c then completed b s else s)
+  through_due : (b : Underway) (s : State) (c : Bool) → Adds s → Adds (if c then completed b s else s)
   through_due b s true a = through_completed b s a
   through_due b s false a = a
 
-  through_where : (o : Option Begun) (s : State) → Adds s → Adds (complete_where_due o s)
+  through_where : (o : Option Underway) (s : State) → Adds s → Adds (complete_where_due o s)
   through_where None s a = a
   through_where (Some b) s a = through_due b s (length b.left == 0) a
 
@@ -183,7 +183,7 @@ module _ (Q : Cells → Type 0) where
   unfolding with_completion
   through_completion s a = through_where s.underway s a
 
-  through_after : (o : Option Begun) (s : State) → Adds s → Adds (completion_after o s)
+  through_after : (o : Option Underway) (s : State) → Adds s → Adds (completion_after o s)
   through_after None s a = a
   through_after (Some b) s a = through_completion s a
 
@@ -229,7 +229,7 @@ module _ (Q : Cells → Type 0) where
     | inr all ↦ subst Adds (sym (all.1)) (forced true s (self s h))
   ]
 
-  has_copied : (n : ℕ) (o : Option Begun) (s : State) → StateHas Q s → StateHas Q (copied n o s)
+  has_copied : (n : ℕ) (o : Option Underway) (s : State) → StateHas Q s → StateHas Q (copied n o s)
   has_copied n None s h = h
   has_copied n (Some b) s h = h
 
@@ -252,7 +252,7 @@ module _ (Q : Cells → Type 0) where
   all_rolled : (ts : List ℕ) (s : State) → StateHas Q s → StateHas Q ((roll_all ts s).1)
   unfolding all_forced
   all_rolled [] s h = h
-  all_rolled (t ∷ ts) s h = roll_has s (roll_all ts (ended_one t s)) (has_place t s) h (all_rolled ts (ended_one t s) (rolled_has t s h))
+  all_rolled (t ∷ ts) s h = roll_has s (roll_all ts (ended_one t s)) (has_position t s) h (all_rolled ts (ended_one t s) (rolled_has t s h))
 
   pub adds-ended : (s : State) → StateHas Q s → StateHas Q ((ended s).1)
   unfolding ended

@@ -11,7 +11,7 @@ use Rattle.tt_model.specs.Committed.{Cells, is_full}
 use Rattle.tt_model.specs.Live.{numbers_below}
 use Rattle.tt_model.specs.Holders.{Held, has_held, has_null, values_at}
 use Rattle.tt_model.specs.Tables.{Catalog, Index, PlacedRow, Table, catalog_of, rows_of, table_with, unique_of}
-use Rattle.tt_model.specs.Damages.{breaks_table, first_bad_row, has_misfit, has_row_key_before, has_unique_before, is_bad_row_at, is_bad_user_row, is_before, is_there_before}
+use Rattle.tt_model.specs.Damage.{breaks_table, first_bad_row, has_misfit, has_row_key_before, has_unique_before, is_bad_row_at, is_bad_user_row, is_before, is_there_before}
 use Rattle.tt_model.specs.GoodRows.{FitsIn}
 use Rattle.tt_model.proofs.ConflictLemmas.{none_passes, same_values-self}
 use Rattle.tt_model.proofs.RowLemmas.{LieIn, are_rows-rows_of}

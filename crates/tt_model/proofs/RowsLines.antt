@@ -12,16 +12,16 @@ use Rattle.tt_parse.specs.declared.command.Command.{Command}
 use Rattle.tt_parse.specs.declared.command.Command.TheVariants.{CreateTable, DropTable, CreateIndex, DropIndex, Insert, Update, Delete, Select, Commit as CommitLine, Rollback, DurableCommit, Flush, Ckpt, CkptBlocking, LogHolds, Bookmark, Backup as BackupLine, XlaCreate, XlaDelete, XlaSubscribe, XlaUnsubscribe, XlaOpen, XlaNext, XlaAcknowledge, XlaClose}
 use Rattle.tt_parse.specs.declared.command.BackupKind.{BackupKind}
 use Rattle.tt_parse.specs.declared.command.BackupKind.TheVariants.{Full, FullEnable, Incremental, IncrOrFull, Stop}
-use Rattle.tt_model.specs.Sets.{Sound, SetStanding}
+use Rattle.tt_model.specs.Sets.{Readable, SetStanding}
 use Rattle.tt_model.specs.Tables.{PlacedRow, Table, index_named, table_named, table_with}
-use Rattle.tt_model.specs.State.{Begun, Reader, State, all_forced, catalog, cells_of, live_in, write_position}
+use Rattle.tt_model.specs.State.{Underway, Reader, State, all_forced, catalog, cells_of, live_in, write_position}
 use Rattle.tt_model.specs.declared.definition.CellEdit.{CellEdit}
 use Rattle.tt_model.specs.Meaning.{Makes, meant_by_delete, meant_by_insert, meant_by_select, meant_by_update}
 use Rattle.tt_model.specs.System.{bookmark, deletes, meant_by_acknowledge, meant_by_create_index, meant_by_delete_bookmark, meant_by_drop_index, meant_by_drop_table, meant_by_subscribe, meant_by_unsubscribe, reader_on}
 use Rattle.tt_model.specs.Backups.{backup_refusal, extended_now, full_now, kind_done, row_of_set, set_edit, with_set}
 use Rattle.tt_model.specs.Sound.{IsSound}
 use Rattle.tt_model.specs.Checkpoint.{begin_checkpoint, complete_where_due, completed, copied, with_all_copies, with_completion, with_copies}
-use Rattle.tt_model.specs.Step.{Answers, Step, backed_up, backup_kind, backup_place, begun_reply, checkpoint_open, closed, completion_after, given, kept_place, least_open, line, no_checkpoint_number, number_for, open_at, refused, system_done, with_reader, no_skip, next_place_of, given_to}
+use Rattle.tt_model.specs.Step.{Answers, Step, backed_up, backup_kind, backup_position, begun_reply, checkpoint_open, closed, completion_after, given, kept_read, least_open, line, no_checkpoint_number, number_for, open_at, refused, system_done, with_reader, no_skip, next_read_of, given_to}
 use Rattle.tt_model.proofs.BookmarkLines.{may_good, may_new}
 use Rattle.tt_model.proofs.CatalogLemmas.{LeaveUserTables, not_held_user}
 use Rattle.tt_model.proofs.EditLemmas.{AreNew, fresh_entries}
@@ -78,22 +78,22 @@ leaves_stop set s (Some at) e r =
     (λ m user has. deletes-elsewhere m 6 (at ∷ []) refl refl))
 
 leaves_backed_up : (set : ℕ) (kind : BackupKind) (s : State) → IsReady s → Leaves ((backed_up set kind s).1)
-leaves_backed_up set Full s r = leaves-self (with_set set (Some (Sound (full_now s))) (all_forced s)) (ready-with_set set (Some (Sound (full_now s))) s r)
-leaves_backed_up set FullEnable s r = leaves_set set (Some (Sound (full_now s))) s r
+leaves_backed_up set Full s r = leaves-self (with_set set (Some (Readable (full_now s))) (all_forced s)) (ready-with_set set (Some (Readable (full_now s))) s r)
+leaves_backed_up set FullEnable s r = leaves_set set (Some (Readable (full_now s))) s r
 leaves_backed_up set Incremental s r = leaves_set set (extended_now (s.sets set) s) s r
 leaves_backed_up set Stop s r = leaves_stop set s (row_of_set set s) refl r
 leaves_backed_up set IncrOrFull s r = leaves-self s r
 
 leaves_backup : (session set : ℕ) (kind : BackupKind) (s : State) → IsReady s → Leaves ((backup_kind session set kind s).1)
 leaves_backup session set kind s r =
-    leaves-unless (option_or (backup_refusal session s set kind) (backup_place set kind s)) ((backed_up set kind s).0) ((backed_up set kind s).1) s (leaves-self s r) (leaves_backed_up set kind s r)
+    leaves-unless (option_or (backup_refusal session s set kind) (backup_position set kind s)) ((backed_up set kind s).0) ((backed_up set kind s).1) s (leaves-self s r) (leaves_backed_up set kind s r)
 
 -- ---- readers
 
 leaves_open_at : (session : ℕ) (name : List ℕ) (o : Option PlacedRow) (s : State) → Leaves s → Leaves ((open_at session name o s).1)
 leaves_open_at session name None s a = a
 leaves_open_at session name (Some r) s a =
-    leaves-unless (option_map BookmarkBusy (reader_on name s)) Done (with_reader session (Some (record { bookmark = name; place = kept_place r })) s) s a a
+    leaves-unless (option_map BookmarkBusy (reader_on name s)) Done (with_reader session (Some (record { bookmark = name; place = kept_read r })) s) s a a
 
 leaves_opened : (session : ℕ) (name : List ℕ) (s : State) (c : Bool) → Leaves s → Leaves ((cond c (refused (BookmarkBusy session) s) (open_at session name (bookmark name s) s)).1)
 leaves_opened session name s true a = a
@@ -101,7 +101,7 @@ leaves_opened session name s false a = leaves_open_at session name (bookmark nam
 
 leaves_given : (session : ℕ) (o : Option Reader) (n : ℕ) (s : State) → Leaves s → Leaves ((given session o n s).1)
 leaves_given session None n s a = a
-leaves_given session (Some r) n s a = leaves-unless (no_skip (next_place_of r n s)) ((given_to session r n s).0) ((given_to session r n s).1) s a a
+leaves_given session (Some r) n s a = leaves-unless (no_skip (next_read_of r n s)) ((given_to session r n s).0) ((given_to session r n s).1) s a a
 
 leaves_closed : (session : ℕ) (o : Option Reader) (s : State) → Leaves s → Leaves ((closed session o s).1)
 leaves_closed session None s a = a
@@ -109,7 +109,7 @@ leaves_closed session (Some r) s a = a
 
 -- ---- checkpoints
 
-through_copied : (n : ℕ) (o : Option Begun) (s : State) → Leaves s → Leaves (copied n o s)
+through_copied : (n : ℕ) (o : Option Underway) (s : State) → Leaves s → Leaves (copied n o s)
 through_copied n None s a = a
 through_copied n (Some b) s a = a
 
@@ -121,15 +121,15 @@ through_begin : (s : State) → Leaves s → Leaves (begin_checkpoint s)
 unfolding begin_checkpoint
 through_begin s a = a
 
-through_completed : (b : Begun) (s : State) → Leaves s → Leaves (completed b s)
+through_completed : (b : Underway) (s : State) → Leaves s → Leaves (completed b s)
 unfolding completed all_forced
 through_completed b s a = a
 
-through_due : (b : Begun) (s : State) (c : Bool) → Leaves s → Leaves (if c then completed b s else s)
+through_due : (b : Underway) (s : State) (c : Bool) → Leaves s → Leaves (if c then completed b s else s)
 through_due b s true a = through_completed b s a
 through_due b s false a = a
 
-through_where : (o : Option Begun) (s : State) → Leaves s → Leaves (complete_where_due o s)
+through_where : (o : Option Underway) (s : State) → Leaves s → Leaves (complete_where_due o s)
 through_where None s a = a
 through_where (Some b) s a = through_due b s (length b.left == 0) a
 
@@ -137,7 +137,7 @@ through_completion : (s : State) → Leaves s → Leaves (with_completion s)
 unfolding with_completion
 through_completion s a = through_where s.underway s a
 
-pub through_after : (o : Option Begun) (s : State) → Leaves s → Leaves (completion_after o s)
+pub through_after : (o : Option Underway) (s : State) → Leaves s → Leaves (completion_after o s)
 through_after None s a = a
 through_after (Some b) s a = through_completion s a
 
@@ -234,7 +234,7 @@ leaves-answers session (Ok command) s reply after r i (inr w) = elim (w.2) [
 
 -- ---- each round
 
-ready_copied : (n : ℕ) (o : Option Begun) (s : State) → IsSound (copied n o s) → IsReady s → IsReady (copied n o s)
+ready_copied : (n : ℕ) (o : Option Underway) (s : State) → IsSound (copied n o s) → IsReady s → IsReady (copied n o s)
 ready_copied n None s h r = r
 ready_copied n (Some b) s h r = record { sound = h; held = r.held; own = r.own; stand = r.stand }
 

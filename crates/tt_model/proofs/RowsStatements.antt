@@ -23,7 +23,7 @@ use Rattle.tt_model.specs.State.{State, bound, catalog, cells_of, free_place, pl
 use Rattle.tt_model.specs.declared.definition.CellEdit.{CellEdit}
 use Rattle.tt_model.specs.Sound.{IsSound}
 use Rattle.tt_model.specs.Step.{number_for}
-use Rattle.tt_model.specs.Damages.{has_misfit}
+use Rattle.tt_model.specs.Damage.{has_misfit}
 use Rattle.tt_model.specs.GoodRows.{FitsIn}
 use Rattle.tt_model.specs.WholeRuns.{Each}
 use Rattle.tt_model.proofs.SteadyLemmas.{changed_by-untouched}

@@ -8,7 +8,7 @@ use Rattle.tt_value.specs.declared.reply.Reply.{Reply}
 use Rattle.tt_parse.specs.declared.command.Command.{Command}
 use Rattle.tt_parse.specs.declared.command.Command.TheVariants.{CreateIndex}
 use Rattle.tt_set.specs.declared.settings.Settings.{Settings}
-use Rattle.tt_model.specs.Found.{Found}
+use Rattle.tt_model.specs.Opened.{Opened}
 use Rattle.tt_model.specs.Live.{is_live, live}
 use Rattle.tt_model.specs.Sets.{SetStanding}
 use Rattle.tt_model.specs.Tables.{Table, table_named}
@@ -16,11 +16,11 @@ use Rattle.tt_model.specs.Committed.{Cells, committed}
 use Rattle.tt_model.specs.State.{State, all_forced, bound, catalog, cells_of, live_in, with_entry}
 use Rattle.tt_model.specs.System.{meant_by_create_index}
 use Rattle.tt_model.specs.Checkpoint.{with_copies}
-use Rattle.tt_model.specs.Damages.{first_bad_catalog, first_bad_row}
+use Rattle.tt_model.specs.Damage.{first_bad_catalog, first_bad_row}
 use Rattle.tt_model.specs.Entries.{IsOfGrammar}
 use Rattle.tt_model.specs.Sound.{IsSound}
 use Rattle.tt_model.specs.Step.{Step}
-use Rattle.tt_model.specs.Run.{begun, ended, ended_one, has_place, opened, roll_all}
+use Rattle.tt_model.specs.Run.{begun, ended, ended_one, has_position, opened, roll_all}
 use Rattle.tt_model.specs.WholeRuns.{HeldOnce, IsSession, ReadersHaveBookmarks}
 use Rattle.tt_model.specs.GoodRows.{FirstPartsFit, HasFittingRows, UsersRowsStayGood}
 use Rattle.tt_model.proofs.RowsCatalog.{HasGoodTables, good-tables}
@@ -41,7 +41,7 @@ use Rattle.tt_model.proofs.RowsWorks.{IsReady, leaves-rolled_back}
 
 -- ---- the beginning
 
-rows-begun : (settings : Settings) (found : Found) (files : ℕ → Bool) (sets : ℕ → Option SetStanding) →
+rows-begun : (settings : Settings) (found : Opened) (files : ℕ → Bool) (sets : ℕ → Option SetStanding) →
     first_bad_row (bound (opened settings found files sets)) found.cells ≡ None → HasFittingRows (begun settings found files sets)
 unfolding begun with_entry committed live
 rows-begun settings found files sets good = record {
@@ -88,7 +88,7 @@ stand-roll_all [] s h stand a l = stand
 stand-roll_all (t ∷ ts) s h stand a l =
     let lives : is_live t s.entries ≡ true = l t (or_left (nat_eq t t) (list_any (nat_eq t) ts) (eq-eqb t t refl)) in
     stand_step s (roll_all ts (ended_one t s)) stand
-    (stand-roll_all ts (ended_one t s) (sound-ended_one t s h lives) (leaves-rolled_back t s h stand lives) (a.1) (others_live t ts s a l)) (has_place t s)
+    (stand-roll_all ts (ended_one t s) (sound-ended_one t s h lives) (leaves-rolled_back t s h stand lives) (a.1) (others_live t ts s a l)) (has_position t s)
 
 rows-end : (s : State) → IsSound s → HasFittingRows s → HasFittingRows ((ended s).1)
 unfolding ended
@@ -112,7 +112,7 @@ parts-to s h n b l m below = counts-from AreRight s h n b below
 right-from : (b : ℕ) (cells : Cells) → LieBelow b cells → first_bad_row b cells ≡ None → AreRight cells
 right-from b cells below good c other = sym (first_bad_row-either b c cells below other) ∙ good
 
-parts-begun : (settings : Settings) (found : Found) (files : ℕ → Bool) (sets : ℕ → Option SetStanding) → IsSound (begun settings found files sets) →
+parts-begun : (settings : Settings) (found : Opened) (files : ℕ → Bool) (sets : ℕ → Option SetStanding) → IsSound (begun settings found files sets) →
     first_bad_row (bound (opened settings found files sets)) found.cells ≡ None → FirstPartsFit (begun settings found files sets)
 unfolding begun with_entry committed
 parts-begun settings found files sets h good =

@@ -2,11 +2,11 @@
 use Rattle.std.proofs.Common.{◌≡◌, ℕ, Bool, Option, Some, None, sym, ◌∙◌}
 use Rattle.tt_set.specs.declared.settings.Settings.{Settings}
 use Rattle.tt_model.specs.Committed.{Cells, committed}
-use Rattle.tt_model.specs.Found.{Found}
+use Rattle.tt_model.specs.Opened.{Opened}
 use Rattle.tt_model.specs.Sets.{SetStanding}
-use Rattle.tt_model.specs.State.{Begun, State, bound, cells_of, with_entry}
+use Rattle.tt_model.specs.State.{Underway, State, bound, cells_of, with_entry}
 use Rattle.tt_model.specs.Checkpoint.{copied, with_copies}
-use Rattle.tt_model.specs.Damages.{first_bad_catalog}
+use Rattle.tt_model.specs.Damage.{first_bad_catalog}
 use Rattle.tt_model.specs.Entries.{HasKeptReaders, HasLogInRange}
 use Rattle.tt_model.specs.GoodCatalog.{HasGoodCatalog}
 use Rattle.tt_model.specs.GoodRows.{FirstPartsAreGood, FirstPartsFit, HasFittingRows, RowsStayGood}
@@ -43,22 +43,22 @@ rows_of_parts s parts n b l m below = (parts n b l m below).rows
 parts_of : (s : State) → StateHas HasRightCatalog s → FirstPartsFit s → FirstPartsAreGood s
 parts_of s catalogs rows n b l m below = record { catalog = counts-from HasRightCatalog s catalogs n b below; rows = rows n b l m below }
 
-begun_catalogs : (settings : Settings) (found : Found) (files : ℕ → Bool) (sets : ℕ → Option SetStanding) → HasRightCatalog found.cells → StateHas HasRightCatalog (begun settings found files sets)
+begun_catalogs : (settings : Settings) (found : Opened) (files : ℕ → Bool) (sets : ℕ → Option SetStanding) → HasRightCatalog found.cells → StateHas HasRightCatalog (begun settings found files sets)
 unfolding begun with_entry committed
 begun_catalogs settings found files sets right = (right, right)
 
-begun_lies : (settings : Settings) (found : Found) (files : ℕ → Bool) (sets : ℕ → Option SetStanding) → IsSound (begun settings found files sets) → LieBelow (bound (opened settings found files sets)) found.cells
+begun_lies : (settings : Settings) (found : Opened) (files : ℕ → Bool) (sets : ℕ → Option SetStanding) → IsSound (begun settings found files sets) → LieBelow (bound (opened settings found files sets)) found.cells
 unfolding begun with_entry committed
 begun_lies settings found files sets h q y = full-below (begun settings found files sets) q h y
 
 -- A run begins without a reader.
-begun_readers : (settings : Settings) (found : Found) (files : ℕ → Bool) (sets : ℕ → Option SetStanding) → HasKeptReaders (begun settings found files sets)
+begun_readers : (settings : Settings) (found : Opened) (files : ℕ → Bool) (sets : ℕ → Option SetStanding) → HasKeptReaders (begun settings found files sets)
 unfolding begun with_entry
 begun_readers settings found files sets session r is = let no : ⊥ = cc in absurd no
 
 -- ---- behind a round's copies
 
-copied_range : (n : ℕ) (o : Option Begun) (s : State) → HasLogInRange s → HasLogInRange (copied n o s)
+copied_range : (n : ℕ) (o : Option Underway) (s : State) → HasLogInRange s → HasLogInRange (copied n o s)
 copied_range n None s h = h
 copied_range n (Some b) s h = record { size = h.size; found = h.found; end = h.end; entries = h.entries }
 
@@ -66,7 +66,7 @@ copies_range : (s : State) → HasLogInRange s → HasLogInRange (with_copies s)
 unfolding with_copies
 copies_range s h = copied_range s.settings.ckpt_pages s.underway s h
 
-copied_good : (n : ℕ) (o : Option Begun) (s : State) → HasGood s → HasGood (copied n o s)
+copied_good : (n : ℕ) (o : Option Underway) (s : State) → HasGood s → HasGood (copied n o s)
 copied_good n None s h = h
 copied_good n (Some b) s h = h
 

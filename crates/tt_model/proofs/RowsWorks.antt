@@ -14,7 +14,7 @@ use Rattle.tt_model.specs.State.{State, all_forced, bound, catalog, cells_of, ne
 use Rattle.tt_model.specs.declared.definition.CellEdit.{CellEdit}
 use Rattle.tt_model.specs.Meaning.{Meant, Gives, Makes, Refuses}
 use Rattle.tt_model.specs.Sound.{IsSound, MayEdit}
-use Rattle.tt_model.specs.Step.{commit_of, edit_length, end_length, forced_where, is_durable, made, made_in, no_number_for, no_place, no_system_place, number_for, rollback_lengths, rollback_of, rolled_back, settled, statement, system, system_done, unless_refused}
+use Rattle.tt_model.specs.Step.{commit_of, edit_length, end_length, forced_where, is_durable, made, made_in, no_number_for, no_position, no_system_position, number_for, rollback_lengths, rollback_of, rolled_back, session_ended, statement, system, system_done, unless_refused}
 use Rattle.tt_model.specs.WholeRuns.{HeldOnce}
 use Rattle.tt_model.proofs.RowsCatalog.{HasOwnNumbers}
 use Rattle.tt_model.proofs.AppendLemmas.{cells-Abort, cells-Commit}
@@ -82,7 +82,7 @@ leaves-made : (session : ℕ) (edits : List CellEdit) (s : State) → IsReady s 
     Leaves ((made session edits s).1)
 leaves-made session [] s r may allowed = leaves-self s r
 leaves-made session (e ∷ es) s r may allowed =
-    leaves-unless (option_or (no_number_for (s.own session) s) (no_place (map edit_length (e ∷ es)) s)) _ (made_in session (number_for (s.own session) s) (e ∷ es) s) s (leaves-self s r)
+    leaves-unless (option_or (no_number_for (s.own session) s) (no_position (map edit_length (e ∷ es)) s)) _ (made_in session (number_for (s.own session) s) (e ∷ es) s) s (leaves-self s r)
     (λ own. leaves-edits session (e ∷ es) s r may allowed)
 
 pub leaves-statement : (session : ℕ) (m : Meant) (s : State) → IsReady s →
@@ -105,7 +105,7 @@ pub leaves-commit : (session : ℕ) (o : Option ℕ) (s : State) → IsReady s �
 leaves-commit session None s r e = leaves-forced (is_durable session s) s (leaves-self s r)
 leaves-commit session (Some t) s r e =
     let mid : State = with_entry (Commit t) s in
-    leaves-unless (no_place (end_length ∷ []) s) Done (settled session (forced_where (is_durable session s) mid)) s (leaves-self s r)
+    leaves-unless (no_position (end_length ∷ []) s) Done (session_ended session (forced_where (is_durable session s) mid)) s (leaves-self s r)
     (leaves-forced (is_durable session s) mid (λ own. leaves-Commit t s r (((r.sound).owned).live session t e)))
 
 pub leaves-rolled_back : (t : ℕ) (s : State) → IsSound s → StandIn (catalog s) s → is_live t s.entries ≡ true → StandIn (catalog (rolled_back t s)) (rolled_back t s)
@@ -119,7 +119,7 @@ leaves-rolled_back t s h stand l =
 pub leaves-rollback : (session : ℕ) (o : Option ℕ) (s : State) → IsReady s → s.own session ≡ o → Leaves ((rollback_of session o s).1)
 leaves-rollback session None s r e = leaves-self s r
 leaves-rollback session (Some t) s r e =
-    leaves-unless (no_place (rollback_lengths t s) s) Done (settled session (rolled_back t s)) s (leaves-self s r)
+    leaves-unless (no_position (rollback_lengths t s) s) Done (session_ended session (rolled_back t s)) s (leaves-self s r)
     (λ own. leaves-rolled_back t s r.sound r.stand (((r.sound).owned).live session t e))
 
 -- ---- transactions of the system
@@ -143,7 +143,7 @@ leaves-system_done edits s r m own =
 pub leaves-system_by : (m : Meant) (s : State) → IsReady s → ((edits : List CellEdit) → m ≡ Makes edits → Leaves (system_done edits s)) → Leaves ((system m s).1)
 leaves-system_by (Refuses x) s r f = leaves-self s r
 leaves-system_by (Gives rows) s r f = leaves-self s r
-leaves-system_by (Makes edits) s r f = leaves-unless (no_system_place edits s) Done (system_done edits s) s (leaves-self s r) (f edits refl)
+leaves-system_by (Makes edits) s r f = leaves-unless (no_system_position edits s) Done (system_done edits s) s (leaves-self s r) (f edits refl)
 
 pub leaves-system : (m : Meant) (s : State) → IsReady s → ((edits : List CellEdit) → m ≡ Makes edits → LeaveRows s edits) → Leaves ((system m s).1)
 leaves-system m s r f = leaves-system_by m s r (λ edits e. leaves-system_done edits s r (f edits e))

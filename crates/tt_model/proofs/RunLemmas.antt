@@ -8,9 +8,9 @@ use Rattle.tt_value.specs.declared.refusal.Refusal.{Refusal}
 use Rattle.tt_parse.specs.declared.command.Command.{Command}
 use Rattle.tt_model.specs.Checkpoint.{with_copies}
 use Rattle.tt_model.specs.Step.{Step, rolled_back}
-use Rattle.tt_model.specs.Run.{WasToLeave, Line, Run, has_place, ended_one, roll_all, ended}
+use Rattle.tt_model.specs.Run.{WasToLeave, Line, Run, has_position, ended_one, roll_all, ended}
 use Rattle.tt_model.specs.Trail.{Trail, oldest}
-use Rattle.tt_model.specs.Found.{Found}
+use Rattle.tt_model.specs.Opened.{Opened}
 use Rattle.tt_model.specs.Prefix.{StandsForFirst}
 use Rattle.tt_model.specs.Sound.{IsSound}
 use Rattle.tt_model.specs.WholeRuns.{GoesOn, TrailsGoOn, ForcedEntriesAreFound}
@@ -47,7 +47,7 @@ grows_next t ts s ih false = grows-same s
 
 grows_all : (ts : List ℕ) (s : State) → Grows s ((roll_all ts s).1)
 grows_all [] s = grows-all_forced s
-grows_all (t ∷ ts) s = grows_next t ts s (grows_all ts) (has_place t s)
+grows_all (t ∷ ts) s = grows_next t ts s (grows_all ts) (has_position t s)
 
 grows_end : (s : State) → Grows s ((ended s).1)
 unfolding ended
@@ -110,7 +110,7 @@ least_forced end rest given s last least few (inr (inr is)) = omega (arith, is.3
 trail_behind : (s last : State) (g : GoesOn s last) → trail last ≡ g.newer ++ trail s
 trail_behind s last g =
     ap (λ (es : Trail). es ++ last.found.entries) g.entries
-    ∙ (ap (λ (f : Found). (g.newer ++ s.entries) ++ f.entries) g.found
+    ∙ (ap (λ (f : Opened). (g.newer ++ s.entries) ++ f.entries) g.found
     ∙ assoc g.newer s.entries s.found.entries)
 
 pub forced_entries_are_found : ForcedEntriesAreFound

@@ -6,7 +6,7 @@ use Rattle.std.proofs.Math.Nat.{lt-mul-div-succ}
 use Rattle.tt_value.specs.declared.position.Position.{Position}
 use Rattle.std.specs.List.{list_any}
 use Rattle.tt_value.specs.declared.value.Cell.{Cell}
-use Rattle.tt_record.specs.Entries.{length_of}
+use Rattle.tt_record.specs.Entry.{length_of}
 use Rattle.tt_record.specs.declared.entry.Entry.{Entry}
 use Rattle.tt_record.specs.declared.entry.Entry.TheVariants.{Change, Commit, Abort, Mark, Switch}
 use Rattle.tt_model.specs.Trail.{Trail}

@@ -7,12 +7,12 @@ use Rattle.tt_record.specs.declared.entry.Entry.TheVariants.{Commit}
 use Rattle.tt_model.specs.Trail.{Trail}
 use Rattle.tt_model.specs.Live.{live, is_live}
 use Rattle.tt_model.specs.Steady.{MayAbort, IsGrown}
-use Rattle.tt_model.specs.Found.{Found}
-use Rattle.tt_model.specs.State.{State, Begun, trail, next, at_one, with_entry, with_edit, with_edits, all_forced, reversals, place_for}
+use Rattle.tt_model.specs.Opened.{Opened}
+use Rattle.tt_model.specs.State.{State, Underway, trail, next, at_one, with_entry, with_edit, with_edits, all_forced, reversals, place_for}
 use Rattle.tt_model.specs.declared.definition.CellEdit.{CellEdit}
 use Rattle.tt_model.specs.Sound.{IsOwned, KeepsCatalog, IsSound, MayWrite, MayEdit}
 use Rattle.tt_model.specs.Checkpoint.{begin_checkpoint, copied, with_copies, with_all_copies, complete_where_due, completed, with_completion}
-use Rattle.tt_model.specs.Step.{number_for, made_in, settled, rolled_back, system_done, forced_where, completion_after}
+use Rattle.tt_model.specs.Step.{number_for, made_in, session_ended, rolled_back, system_done, forced_where, completion_after}
 use Rattle.tt_model.proofs.SteadyLemmas.{list_any-with_number, is_in-without_other}
 use Rattle.tt_model.proofs.NumberLemmas.{next-not_live}
 use Rattle.tt_model.proofs.CatalogLemmas.{AreOfUsers, LeaveUserTables, catalog-with_edits, catalog-Commit, catalog-rolled_back, catalog-system}
@@ -49,7 +49,7 @@ found-with_edits t [] s = refl
 found-with_edits t (edit ∷ edits) s = found-with_edits t edits (with_edit t edit s)
 
 found_catalog : (t : ℕ) (edits : List CellEdit) (s : State) → KeepsCatalog s.found.cells ((with_edits t edits s).entries) → KeepsCatalog (with_edits t edits s).found.cells ((with_edits t edits s).entries)
-found_catalog t edits s k = subst (λ (f : Found). KeepsCatalog f.cells ((with_edits t edits s).entries)) (sym (found-with_edits t edits s)) k
+found_catalog t edits s k = subst (λ (f : Opened). KeepsCatalog f.cells ((with_edits t edits s).entries)) (sym (found-with_edits t edits s)) k
 
 pub found-rolled_back : (t : ℕ) (s : State) → (rolled_back t s).found ≡ s.found
 unfolding with_entry
@@ -165,20 +165,20 @@ log-forced_where false s h = h
 
 -- A commit of a session's transaction.
 pub sound-Commit : (s : State) (session t : ℕ) (durable : Bool) → IsSound s → s.own session ≡ Some t →
-    IsSound (settled session (forced_where durable (with_entry (Commit t) s)))
+    IsSound (session_ended session (forced_where durable (with_entry (Commit t) s)))
 unfolding with_entry live all_forced
 sound-Commit s session t durable h is =
     let log : LogOf (with_entry (Commit t) s) = log-Commit t s h.entries ((h.owned).live session t is) in
     let owned : IsOwned (at_one session None s.own) ((with_entry (Commit t) s).entries)
     = owned-let_go s.own s.entries ((with_entry (Commit t) s).entries) session t h.owned is (λ u n l. is_in-without_other t u (live s.entries) n l) in
     let kept : KeepsCatalog s.found.cells ((with_entry (Commit t) s).entries) = catalog-Commit t s h.catalog ((h.owned).live session t is) in
-    elim durable as (λ d. IsSound (settled session (forced_where d (with_entry (Commit t) s)))) [
+    elim durable as (λ d. IsSound (session_ended session (forced_where d (with_entry (Commit t) s)))) [
       | true ↦ record { entries = log-all_forced (with_entry (Commit t) s) log; owned = owned; catalog = kept }
       | false ↦ record { entries = log; owned = owned; catalog = kept }
     ]
 
 -- A commit or a rollback of a session with no transaction.
-pub sound-settled_none : (s : State) (session : ℕ) (durable : Bool) → IsSound s → IsSound (settled session (forced_where durable s))
+pub sound-settled_none : (s : State) (session : ℕ) (durable : Bool) → IsSound s → IsSound (session_ended session (forced_where durable s))
 unfolding all_forced
 sound-settled_none s session true h = record { entries = log-all_forced s h.entries; owned = owned-none s.own s.entries session h.owned; catalog = h.catalog }
 sound-settled_none s session false h = record { entries = h.entries; owned = owned-none s.own s.entries session h.owned; catalog = h.catalog }
@@ -205,19 +205,19 @@ log-rolled_back t s h l =
     = rolled_back-MayAbort s.found.cells t s h.grown l in
     log-Abort t (with_edits t (reversals t s.entries) s)
     (log-with_edits t (reversals t s.entries) s h (inl l) (may-edit t (reversals t s.entries) s (back.0)))
-    (subst (λ (f : Found). MayAbort f.cells ((with_edits t (reversals t s.entries) s).entries) t) (sym (found-with_edits t (reversals t s.entries) s)) (back.1))
+    (subst (λ (f : Opened). MayAbort f.cells ((with_edits t (reversals t s.entries) s).entries) t) (sym (found-with_edits t (reversals t s.entries) s)) (back.1))
 
 pub live-rolled_back : (u t : ℕ) (s : State) → nat_eq t u ≡ false → is_live u s.entries ≡ true → is_live u ((rolled_back t s).entries) ≡ true
 unfolding with_entry live
 live-rolled_back u t s n l =
     is_in-without_other t u (live ((with_edits t (reversals t s.entries) s).entries)) n (live-with_edits u t (reversals t s.entries) s l)
 
-pub sound-rolled_back : (s : State) (session t : ℕ) → IsSound s → s.own session ≡ Some t → IsSound (settled session (rolled_back t s))
+pub sound-rolled_back : (s : State) (session t : ℕ) → IsSound s → s.own session ≡ Some t → IsSound (session_ended session (rolled_back t s))
 sound-rolled_back s session t h is = record {
   entries = log-rolled_back t s h.entries ((h.owned).live session t is);
   owned = subst (λ (own : ℕ → Option ℕ). IsOwned (at_one session None own) ((rolled_back t s).entries)) (sym (own-rolled_back t s))
       (owned-let_go s.own s.entries ((rolled_back t s).entries) session t h.owned is (λ u n l. live-rolled_back u t s n l));
-  catalog = subst (λ (f : Found). KeepsCatalog f.cells ((rolled_back t s).entries)) (sym (found-rolled_back t s)) (catalog-rolled_back t (reversals t s.entries) s h.catalog);
+  catalog = subst (λ (f : Opened). KeepsCatalog f.cells ((rolled_back t s).entries)) (sym (found-rolled_back t s)) (catalog-rolled_back t (reversals t s.entries) s h.catalog);
 }
 
 -- ---- a transaction of its own
@@ -254,12 +254,12 @@ sound-system_done edit edits s h u m =
       owned = subst (λ (own : ℕ → Option ℕ). IsOwned own done.entries)
           (sym (own-with_entry (Commit (next s)) (with_edits (next s) (edit ∷ edits) s) ∙ own-with_edits (next s) (edit ∷ edits) s))
           (owned_beside s done.entries h (λ u n l. live-system u (next s) (edit ∷ edits) s n l));
-      catalog = subst (λ (f : Found). KeepsCatalog f.cells done.entries) (sym (found-system (next s) (edit ∷ edits) s)) (catalog-system (edit ∷ edits) s h.catalog u);
+      catalog = subst (λ (f : Opened). KeepsCatalog f.cells done.entries) (sym (found-system (next s) (edit ∷ edits) s)) (catalog-system (edit ∷ edits) s h.catalog u);
     })
 
 -- ---- checkpoints
 
-sound-copied : (n : ℕ) (s : State) (b : Option Begun) → IsSound s → IsSound (copied n b s)
+sound-copied : (n : ℕ) (s : State) (b : Option Underway) → IsSound s → IsSound (copied n b s)
 sound-copied n s None h = h
 sound-copied n s (Some b) h = record { entries = h.entries; owned = h.owned; catalog = h.catalog }
 
@@ -275,15 +275,15 @@ pub sound-begin_checkpoint : (s : State) → IsSound s → IsSound (begin_checkp
 unfolding begin_checkpoint
 sound-begin_checkpoint s h = record { entries = h.entries; owned = h.owned; catalog = h.catalog }
 
-sound-completed : (b : Begun) (s : State) → IsSound s → IsSound (completed b s)
+sound-completed : (b : Underway) (s : State) → IsSound s → IsSound (completed b s)
 unfolding completed all_forced
 sound-completed b s h = record { entries = log-all_forced s h.entries; owned = h.owned; catalog = h.catalog }
 
-sound_due : (b : Begun) (s : State) (c : Bool) → IsSound s → IsSound (cond c (completed b s) s)
+sound_due : (b : Underway) (s : State) (c : Bool) → IsSound s → IsSound (cond c (completed b s) s)
 sound_due b s true h = sound-completed b s h
 sound_due b s false h = h
 
-sound_where_due : (s : State) (b : Option Begun) → IsSound s → IsSound (complete_where_due b s)
+sound_where_due : (s : State) (b : Option Underway) → IsSound s → IsSound (complete_where_due b s)
 sound_where_due s None h = h
 sound_where_due s (Some b) h = sound_due b s (length b.left == 0) h
 
@@ -291,6 +291,6 @@ pub sound-with_completion : (s : State) → IsSound s → IsSound (with_completi
 unfolding with_completion
 sound-with_completion s h = sound_where_due s s.underway h
 
-pub sound-completion_after : (b : Option Begun) (s : State) → IsSound s → IsSound (completion_after b s)
+pub sound-completion_after : (b : Option Underway) (s : State) → IsSound s → IsSound (completion_after b s)
 sound-completion_after None s h = h
 sound-completion_after (Some b) s h = sound-with_completion s h

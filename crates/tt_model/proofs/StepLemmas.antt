@@ -1,37 +1,32 @@
 -- Rounds, and the beginning of a run.
 use Rattle.std.proofs.Common.{true≢false, ◌≡◌, ◌<◌, ◌≤◌, ◌*◌, inl, inr, ℕ, Bool, true, false, length, Option, refl, sym, ap, ◌∙◌, subst, arith}
 use Rattle.std.proofs.lemmas.Bool.{or_cases, both_ways}
-use Rattle.std.specs.Prelude.{Result, Ok, Err}
+use Rattle.std.specs.Prelude.{Result, Ok, Err, is_some}
 use Rattle.tt_value.specs.declared.refusal.Refusal.{Refusal}
 use Rattle.tt_value.specs.declared.reply.Reply.{Reply}
 use Rattle.tt_parse.specs.declared.command.Command.{Command}
-use Rattle.tt_record.specs.Entries.{length_of}
+use Rattle.tt_record.specs.Entry.{length_of}
 use Rattle.tt_record.specs.declared.entry.Entry.TheVariants.{Mark}
 use Rattle.tt_set.specs.declared.settings.Settings.{Settings}
 use Rattle.tt_model.specs.Committed.{committed, is_full}
 use Rattle.tt_model.specs.Live.{live, in_use}
-use Rattle.tt_model.specs.Found.{Found}
+use Rattle.tt_model.specs.Opened.{Opened}
 use Rattle.tt_model.specs.Sets.{SetStanding}
-use Rattle.tt_model.specs.State.{State, with_entry}
-use Rattle.tt_model.specs.Checkpoint.{with_copies}
-use Rattle.tt_model.specs.Step.{Step, Answers, WantsMemory, answer, line, stepped, takes_memory, completion_after}
+use Rattle.tt_model.specs.State.{State, with_entry, live_in}
+use Rattle.tt_model.specs.Checkpoint.{with_copies, begin_checkpoint, with_all_copies}
+use Rattle.tt_model.specs.Step.{Step, Answers, WantsMemory, answer, line, stepped, takes_memory, completion_after, checkpoint_open, no_checkpoint_number, least_open}
 use Rattle.tt_model.specs.Sound.{IsUserTable, IsSound}
 use Rattle.tt_model.specs.Run.{opened, begun}
 use Rattle.tt_model.proofs.AppendLemmas.{forced_for-most, forced_for-least}
 use Rattle.tt_model.proofs.PositionLemmas.{next_place-onward}
-use Rattle.tt_model.proofs.SoundLines.{sound-all_forced, sound-with_copies, sound-completion_after}
+use Rattle.tt_model.proofs.SoundLines.{sound-all_forced, sound-with_copies, sound-completion_after, sound-begin_checkpoint, sound-with_all_copies, sound-with_completion}
 use Rattle.tt_model.proofs.LineLemmas.{sound-unless, sound-system_new, sound-statement, sound-select, create_table-new, create_index_new, create_bookmark-new, subscribe_new, sound-commit_of, sound-rollback_of, sound_opened_if, sound-given, sound-closed}
 use Rattle.tt_model.proofs.StatementLemmas.{insert-MayEdit, update-MayEdit, delete-MayEdit, insert-users, update-users, delete-users}
 use Rattle.tt_model.proofs.SystemLines.{sound-system_rows, drop_table-good, drop_index-good, delete_bookmark-good, unsubscribe-good, acknowledge-good, sound-backup_kind}
 use Rattle.tt_parse.specs.declared.command.Command.TheVariants.{CreateTable, DropTable, CreateIndex, DropIndex, Insert, Update, Delete, Select, Commit as CommitLine, Rollback, DurableCommit, Flush, Ckpt, CkptBlocking, LogHolds, Bookmark, Backup as BackupLine, XlaCreate, XlaDelete, XlaSubscribe, XlaUnsubscribe, XlaOpen, XlaNext, XlaAcknowledge, XlaClose}
-use Rattle.std.specs.Prelude.{is_some}
 use Rattle.std.specs.Option.{option_or}
 use Rattle.tt_model.specs.Meaning.{meant_by_insert, meant_by_update, meant_by_delete}
 use Rattle.tt_model.specs.Backups.{kind_done}
-use Rattle.tt_model.specs.State.{live_in}
-use Rattle.tt_model.specs.Checkpoint.{begin_checkpoint, with_all_copies}
-use Rattle.tt_model.specs.Step.{checkpoint_open, no_checkpoint_number, least_open}
-use Rattle.tt_model.proofs.SoundLines.{sound-begin_checkpoint, sound-with_all_copies, sound-with_completion}
 
 -- Each line.
 pub sound-line : (session : ℕ) (command : Command) (s : State) → IsSound s → IsSound ((line session command s).1)
@@ -86,7 +81,7 @@ sound-step s session what reply after h st =
     (sound-completion_after s.underway st.between (sound-answers session what (with_copies s) reply st.between (sound-with_copies s h) st.line))
 
 -- A run begins sound.
-pub sound-begun : (settings : Settings) (found : Found) (files : ℕ → Bool) (sets : ℕ → Option SetStanding) →
+pub sound-begun : (settings : Settings) (found : Opened) (files : ℕ → Bool) (sets : ℕ → Option SetStanding) →
     ((q : ℕ) → is_full (found.cells q) ≡ true → q < 32 * (opened settings found files sets).pages) → ((q : ℕ) → IsUserTable (found.cells q)) →
     IsSound (begun settings found files sets)
 unfolding begun with_entry committed in_use live

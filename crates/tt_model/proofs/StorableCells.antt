@@ -6,11 +6,11 @@ use Rattle.std.specs.Prelude.{◌==◌}
 use Rattle.tt_value.specs.Stored.{IsCell}
 use Rattle.tt_value.specs.declared.value.Cell.{Cell}
 use Rattle.tt_value.specs.declared.value.Cell.TheVariants.{Empty, Full}
-use Rattle.tt_record.specs.Entries.{IsChange, IsTransaction, of_one_table}
+use Rattle.tt_record.specs.Entry.{IsChange, IsTransaction, of_one_table}
 use Rattle.tt_record.specs.declared.entry.Entry.{Entry}
 use Rattle.tt_record.specs.declared.entry.Entry.TheVariants.{Change, Commit, Abort, Mark, Switch}
 use Rattle.tt_model.specs.Trail.{Placed, Trail}
-use Rattle.tt_model.specs.Committed.{Cells, changed, changed_by, committed, is_full, put, settled}
+use Rattle.tt_model.specs.Committed.{Cells, changed, changed_by, committed, is_full, put, after_commit}
 use Rattle.tt_model.specs.Live.{is_live, live, live_after, view_of}
 use Rattle.tt_model.specs.State.{State, cells_of, place_for, reversals, reversed, view, with_edit}
 use Rattle.tt_model.specs.declared.definition.CellEdit.{CellEdit}
@@ -49,7 +49,7 @@ pub cells-changed_by : (t : ℕ) (es : Trail) (cells : Cells) → ArePlain es �
 cells-changed_by t [] cells plain h = h
 cells-changed_by t (e ∷ es) cells plain h = cells_one t e.entry (changed_by t es cells) (plain.0) (cells-changed_by t es cells (plain.1) h)
 
-cells_settled : (x : Entry) (es : Trail) (cells : Cells) → ArePlain es → AreCells cells → AreCells (settled x es cells)
+cells_settled : (x : Entry) (es : Trail) (cells : Cells) → ArePlain es → AreCells cells → AreCells (after_commit x es cells)
 cells_settled (Change u p b a) es cells plain h = h
 cells_settled (Commit t) es cells plain h = cells-changed_by t es cells plain h
 cells_settled (Abort u) es cells plain h = h

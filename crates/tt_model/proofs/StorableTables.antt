@@ -15,7 +15,7 @@ use Rattle.tt_parse.specs.declared.command.ColumnText.{ColumnText}
 use Rattle.tt_model.specs.Committed.{is_full}
 use Rattle.tt_model.specs.Holders.{value_at}
 use Rattle.tt_model.specs.Tables.{PlacedRow, by_number, catalog_of, column_of, number_at, rows_of, table_of, type_of, whole_number_of, with_number_at}
-use Rattle.tt_model.specs.Damages.{SystemTable, Columns, Tables, are_counted, are_taken, breaks_catalog, column_tests, columns_with, first_bad_catalog, has_wrong_columns, id_of, is_number, is_number_from, is_size_of, is_table_id, is_twice, key_positions, values_in}
+use Rattle.tt_model.specs.Damage.{SystemTable, Columns, Tables, are_counted, are_taken, breaks_catalog, column_tests, columns_with, first_bad_catalog, has_wrong_columns, id_of, is_number, is_number_from, is_size_of, is_table_id, is_twice, key_positions, values_in}
 use Rattle.tt_model.specs.Ranges.{IsType}
 use Rattle.tt_model.specs.State.{State, bound, cells_of}
 use Rattle.tt_model.specs.Sound.{IsSound}

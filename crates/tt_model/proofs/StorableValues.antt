@@ -9,7 +9,7 @@ use Rattle.std.specs.Int.{w64}
 use Rattle.std.specs.Int.RustNames.{FitsSigned}
 use Rattle.std.specs.List.{All, AllByRecursion, list_all}
 use Rattle.tt_value.specs.Stored.{IsStorable, IsStorableValue}
-use Rattle.tt_value.specs.declared.TheConstants.{ROW_MAX, UNITS_END}
+use Rattle.tt_value.specs.Limits.{row_most, units_end}
 use Rattle.tt_value.specs.declared.refusal.Refusal.{Refusal}
 use Rattle.tt_value.specs.declared.refusal.Refusal.TheVariants.{OutOfRange, TooWide}
 use Rattle.tt_value.specs.declared.value.Row.{Row}
@@ -41,7 +41,7 @@ in_range (negsuc n) h =
 pub storable-number : (kind : ColumnType) (n : ℤ) → IsType kind → is_value_out kind (number_value kind n) ≡ false → IsStorableValue (number_value kind n)
 storable-number BigInt n type out = in_range n (not_out (int_le (pos 0 -ℤ pos (2 ^ 63)) n && int_lt n (pos (2 ^ 63))) out)
 storable-number (Varchar most) n type out = in_range n (not_out (int_le (pos 0 -ℤ pos (2 ^ 63)) n && int_lt n (pos (2 ^ 63))) out)
-storable-number (NumberOf s) n type out = (type, leb-false UNITS_END (unsigned_abs n) out)
+storable-number (NumberOf s) n type out = (type, leb-false units_end (unsigned_abs n) out)
 
 -- A literal that a column takes, as it is stored there.
 pub storable-literal : (kind : ColumnType) (v : Value) → IsType kind → IsLiteral v → takes_literal kind v ≡ true → is_too_wide kind (stored_value kind v) ≡ false →
@@ -84,7 +84,7 @@ storable-row values some few range short =
       some = some;
       few = few;
       in_range = range;
-      short = ltb-false ROW_MAX (stored_length row) (not_refused (nat_lt ROW_MAX (stored_length row)) (TooWide (stored_length row)) short);
+      short = ltb-false row_most (stored_length row) (not_refused (nat_lt row_most (stored_length row)) (TooWide (stored_length row)) short);
     }
 
 -- ---- inserted values

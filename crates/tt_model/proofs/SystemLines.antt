@@ -17,11 +17,11 @@ use Rattle.tt_model.specs.Tables.{Table, Index, PlacedRow, in_order, inserted, b
 use Rattle.tt_model.specs.Meaning.{Meant, Makes, Refuses, Gives, unless, first_of, refused_if}
 use Rattle.tt_model.specs.System.{system_rows, in_transaction, deletes, rewrites, bookmark, bookmark_values, subscription, delete_bookmark, unsubscribe, acknowledge, acknowledge_in, drop_table, drop_index, meant_by_delete_bookmark, meant_by_unsubscribe, meant_by_acknowledge, meant_by_drop_table, meant_by_drop_index}
 use Rattle.tt_model.specs.Backups.{row_of_set, set_edit, full_now, extended_now, with_set, backup_refusal}
-use Rattle.tt_model.specs.Sets.{Sound, SetStanding}
+use Rattle.tt_model.specs.Sets.{Readable, SetStanding}
 use Rattle.tt_model.specs.State.{State, Reader, next, cells_of, bound, catalog, write_position, all_forced}
 use Rattle.tt_model.specs.declared.definition.CellEdit.{CellEdit}
 use Rattle.tt_model.specs.Sound.{IsSound}
-use Rattle.tt_model.specs.Step.{system, system_done, no_system_place, backup_place, backup_kind}
+use Rattle.tt_model.specs.Step.{system, system_done, no_system_position, backup_position, backup_kind}
 use Rattle.tt_model.proofs.SoundLines.{sound-all_forced, sound-system_done}
 use Rattle.tt_model.proofs.EditLemmas.{AreApart, new-MayEdit}
 use Rattle.tt_model.proofs.RowLemmas.{AreRows, are_rows-rows_of, are_rows-filter, are_rows-in_order}
@@ -44,7 +44,7 @@ sound-good (e ∷ es) s h g = sound-system_done e es s h g.leave (of_rows-MayEdi
 pub sound-system_rows : (m : Meant) (s : State) → IsSound s → ((edits : List CellEdit) → m ≡ Makes edits → AreGood s edits) → IsSound ((system m s).1)
 sound-system_rows (Refuses r) s h f = h
 sound-system_rows (Gives rows) s h f = h
-sound-system_rows (Makes edits) s h f = sound-unless (no_system_place edits s) _ _ s h (sound-good edits s h (f edits refl))
+sound-system_rows (Makes edits) s h f = sound-unless (no_system_position edits s) _ _ s h (sound-good edits s h (f edits refl))
 
 good_or_refused : (s : State) (o : Option Refusal) (es edits : List CellEdit) → AreGood s es → unless o (Makes es) ≡ Makes edits → AreGood s edits
 good_or_refused s o es edits g h = subst (AreGood s) (makes_same es edits ((unless-makes o (Makes es) edits h).1)) g
@@ -268,12 +268,12 @@ sound-stop set s (Some r) e h = sound-good (map (deletes 6) (r ∷ [])) s h (row
 
 pub sound-backup_kind : (session set : ℕ) (kind : BackupKind) (s : State) → IsSound s → IsSound ((backup_kind session set kind s).1)
 sound-backup_kind session set Full s h =
-    sound-unless (option_or (backup_refusal session s set Full) (backup_place set Full s)) _ _ s h (sound-with_set set (Some (Sound (full_now s))) s h)
+    sound-unless (option_or (backup_refusal session s set Full) (backup_position set Full s)) _ _ s h (sound-with_set set (Some (Readable (full_now s))) s h)
 sound-backup_kind session set FullEnable s h =
-    sound-unless (option_or (backup_refusal session s set FullEnable) (backup_place set FullEnable s)) _ _ s h (sound-set set (Some (Sound (full_now s))) s h)
+    sound-unless (option_or (backup_refusal session s set FullEnable) (backup_position set FullEnable s)) _ _ s h (sound-set set (Some (Readable (full_now s))) s h)
 sound-backup_kind session set Incremental s h =
-    sound-unless (option_or (backup_refusal session s set Incremental) (backup_place set Incremental s)) _ _ s h (sound-set set (extended_now (s.sets set) s) s h)
+    sound-unless (option_or (backup_refusal session s set Incremental) (backup_position set Incremental s)) _ _ s h (sound-set set (extended_now (s.sets set) s) s h)
 sound-backup_kind session set Stop s h =
-    sound-unless (option_or (backup_refusal session s set Stop) (backup_place set Stop s)) _ _ s h (sound-stop set s (row_of_set set s) refl h)
+    sound-unless (option_or (backup_refusal session s set Stop) (backup_position set Stop s)) _ _ s h (sound-stop set s (row_of_set set s) refl h)
 sound-backup_kind session set IncrOrFull s h =
-    sound-unless (option_or (backup_refusal session s set IncrOrFull) (backup_place set IncrOrFull s)) _ _ s h h
+    sound-unless (option_or (backup_refusal session s set IncrOrFull) (backup_position set IncrOrFull s)) _ _ s h h

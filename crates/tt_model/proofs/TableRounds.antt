@@ -18,16 +18,16 @@ use Rattle.tt_model.specs.Trail.{Trail}
 use Rattle.tt_model.specs.Committed.{Cells}
 use Rattle.tt_model.specs.Live.{live, is_live}
 use Rattle.tt_model.specs.Holders.{has_held, is_held_by}
-use Rattle.tt_model.specs.Sets.{Sound, SetStanding}
+use Rattle.tt_model.specs.Sets.{Readable, SetStanding}
 use Rattle.tt_model.specs.Tables.{PlacedRow, table_named, index_named}
-use Rattle.tt_model.specs.State.{State, Reader, Begun, live_in, next, catalog, cells_of, write_position, with_entry, with_edit, with_edits, all_forced, reversals}
+use Rattle.tt_model.specs.State.{State, Reader, Underway, live_in, next, catalog, cells_of, write_position, with_entry, with_edit, with_edits, all_forced, reversals}
 use Rattle.tt_model.specs.declared.definition.CellEdit.{CellEdit}
 use Rattle.tt_model.specs.Meaning.{Meant, Makes, Refuses, Gives, meant_by_insert, meant_by_update, meant_by_delete, meant_by_select}
 use Rattle.tt_model.specs.System.{bookmark, reader_on, deletes, meant_by_create_index, meant_by_subscribe, meant_by_drop_table, meant_by_drop_index, meant_by_delete_bookmark, meant_by_unsubscribe, meant_by_acknowledge}
 use Rattle.tt_model.specs.Backups.{kind_done, row_of_set, set_edit, full_now, extended_now, with_set, backup_refusal}
 use Rattle.tt_model.specs.Sound.{whole_table, IsSound, MayEdit}
 use Rattle.tt_model.specs.Checkpoint.{begin_checkpoint, copied, with_copies, with_all_copies, complete_where_due, completed, with_completion}
-use Rattle.tt_model.specs.Step.{Step, Answers, line, unless_refused, forced_where, statement, made, made_in, number_for, no_number_for, no_place, no_system_place, edit_length, settled, is_durable, commit_of, rollback_of, rolled_back, rollback_lengths, end_length, system, system_done, open_at, given, closed, refused, kept_place, with_reader, backed_up, backup_place, backup_kind, checkpoint_open, no_checkpoint_number, least_open, begun_reply, completion_after, no_skip, given_to, next_place_of}
+use Rattle.tt_model.specs.Step.{Step, Answers, line, unless_refused, forced_where, statement, made, made_in, number_for, no_number_for, no_position, no_system_position, edit_length, session_ended, is_durable, commit_of, rollback_of, rolled_back, rollback_lengths, end_length, system, system_done, open_at, given, closed, refused, kept_read, with_reader, backed_up, backup_position, backup_kind, checkpoint_open, no_checkpoint_number, least_open, begun_reply, completion_after, no_skip, given_to, next_read_of}
 use Rattle.tt_model.proofs.AppendLemmas.{cells-Abort}
 use Rattle.tt_model.proofs.SteadyLemmas.{is_in-without}
 use Rattle.tt_model.proofs.CatalogLemmas.{next-holds_nothing, not_held_user}
@@ -116,7 +116,7 @@ leaves-made : (session : ℕ) (edits : List CellEdit) (s : State) → IsSound s 
 leaves-made session [] s h k f = leaves-self s k
 leaves-made session (e ∷ es) s h k f =
     let t : ℕ = number_for (s.own session) s in
-    leaves-unless (option_or (no_number_for (s.own session) s) (no_place (map edit_length (e ∷ es)) s)) _ (made_in session t (e ∷ es) s) s k
+    leaves-unless (option_or (no_number_for (s.own session) s) (no_position (map edit_length (e ∷ es)) s)) _ (made_in session t (e ∷ es) s) s k
     (leaves-beside s (with_edits t (e ∷ es) s) (made_in session t (e ∷ es) s) refl refl (leaves_edits t (e ∷ es) s k (writes s session h) f))
 
 leaves-statement : (session : ℕ) (m : Meant) (s : State) → IsSound s → TablesAreThere s → ((edits : List CellEdit) → m ≡ Makes edits → AllOf (λ n. HasTable n (cells_of s)) edits) →
@@ -133,12 +133,12 @@ leaves_Commit t s h lives k m u l held = (k m u ((is_in-without t u (live s.entr
 
 leaves-commit : (session : ℕ) (o : Option ℕ) (s : State) → IsSound s → s.own session ≡ o → TablesAreThere s → KeepsTables s ((commit_of session o s).1)
 leaves-commit session None s h e k =
-    leaves-beside s (forced_where (is_durable session s) s) (settled session (forced_where (is_durable session s) s)) refl refl (leaves-forced (is_durable session s) s s (leaves-self s k))
+    leaves-beside s (forced_where (is_durable session s) s) (session_ended session (forced_where (is_durable session s) s)) refl refl (leaves-forced (is_durable session s) s s (leaves-self s k))
 leaves-commit session (Some t) s h e k =
     let mid : State = with_entry (Commit t) s in
     let end : State = forced_where (is_durable session s) mid in
-    leaves-unless (no_place (end_length ∷ []) s) Done (settled session end) s k
-    (leaves-beside s end (settled session end) refl refl (leaves-forced (is_durable session s) s mid (leaves_Commit t s h ((h.owned).live session t e) k)))
+    leaves-unless (no_position (end_length ∷ []) s) Done (session_ended session end) s k
+    (leaves-beside s end (session_ended session end) refl refl (leaves-forced (is_durable session s) s mid (leaves_Commit t s h ((h.owned).live session t e) k)))
 
 leaves_Abort : (t : ℕ) (edits : List CellEdit) (s : State) → TablesAreThere s → KeepsTables s (with_entry (Abort t) (with_edits t edits s))
 unfolding with_entry live
@@ -149,10 +149,10 @@ leaves_Abort t edits s k m u l h =
     )
 
 leaves-rollback : (session : ℕ) (o : Option ℕ) (s : State) → TablesAreThere s → KeepsTables s ((rollback_of session o s).1)
-leaves-rollback session None s k = leaves-beside s s (settled session s) refl refl (leaves-self s k)
+leaves-rollback session None s k = leaves-beside s s (session_ended session s) refl refl (leaves-self s k)
 leaves-rollback session (Some t) s k =
-    leaves-unless (no_place (rollback_lengths t s) s) Done (settled session (rolled_back t s)) s k
-    (leaves-beside s (rolled_back t s) (settled session (rolled_back t s)) refl refl (leaves_Abort t (reversals t s.entries) s k))
+    leaves-unless (no_position (rollback_lengths t s) s) Done (session_ended session (rolled_back t s)) s k
+    (leaves-beside s (rolled_back t s) (session_ended session (rolled_back t s)) refl refl (leaves_Abort t (reversals t s.entries) s k))
 
 -- ---- transactions of their own
 
@@ -179,7 +179,7 @@ leaves-system : (m : Meant) (s : State) → IsSound s → TablesAreThere s → (
 leaves-system (Refuses r) s h k f = leaves-self s k
 leaves-system (Gives rows) s h k f = leaves-self s k
 leaves-system (Makes edits) s h k f =
-    leaves-unless (no_system_place edits s) Done (system_done edits s) s k (leaves_system_done edits s h k ((f edits refl).0) ((f edits refl).1))
+    leaves-unless (no_system_position edits s) Done (system_done edits s) s k (leaves_system_done edits s h k ((f edits refl).0) ((f edits refl).1))
 
 -- ---- backups
 
@@ -208,22 +208,22 @@ leaves_stop set s (Some r) e h k =
     (λ m u l held. deletes-elsewhere m 6 (r ∷ []) refl refl)
 
 leaves_backed_up : (set : ℕ) (kind : BackupKind) (s : State) → IsSound s → TablesAreThere s → KeepsTables s ((backed_up set kind s).1)
-leaves_backed_up set Full s h k = leaves_with_set set (Some (Sound (full_now s))) s k
-leaves_backed_up set FullEnable s h k = leaves_set set (Some (Sound (full_now s))) s h k
+leaves_backed_up set Full s h k = leaves_with_set set (Some (Readable (full_now s))) s k
+leaves_backed_up set FullEnable s h k = leaves_set set (Some (Readable (full_now s))) s h k
 leaves_backed_up set Incremental s h k = leaves_set set (extended_now (s.sets set) s) s h k
 leaves_backed_up set Stop s h k = leaves_stop set s (row_of_set set s) refl h k
 leaves_backed_up set IncrOrFull s h k = leaves-self s k
 
 leaves-backup : (session set : ℕ) (kind : BackupKind) (s : State) → IsSound s → TablesAreThere s → KeepsTables s ((backup_kind session set kind s).1)
 leaves-backup session set kind s h k =
-    leaves-unless (option_or (backup_refusal session s set kind) (backup_place set kind s)) ((backed_up set kind s).0) ((backed_up set kind s).1) s k (leaves_backed_up set kind s h k)
+    leaves-unless (option_or (backup_refusal session s set kind) (backup_position set kind s)) ((backed_up set kind s).0) ((backed_up set kind s).1) s k (leaves_backed_up set kind s h k)
 
 -- ---- readers
 
 leaves_open_at : (session : ℕ) (name : List ℕ) (o : Option PlacedRow) (s : State) → TablesAreThere s → KeepsTables s ((open_at session name o s).1)
 leaves_open_at session name None s k = leaves-self s k
 leaves_open_at session name (Some r) s k =
-    leaves-unless (option_map BookmarkBusy (reader_on name s)) Done (with_reader session (Some (record { bookmark = name; place = kept_place r })) s) s k (leaves-self s k)
+    leaves-unless (option_map BookmarkBusy (reader_on name s)) Done (with_reader session (Some (record { bookmark = name; place = kept_read r })) s) s k (leaves-self s k)
 
 leaves_opened : (session : ℕ) (name : List ℕ) (s : State) (c : Bool) → TablesAreThere s → KeepsTables s ((cond c (refused (BookmarkBusy session) s) (open_at session name (bookmark name s) s)).1)
 leaves_opened session name s true k = leaves-self s k
@@ -232,7 +232,7 @@ leaves_opened session name s false k = leaves_open_at session name (bookmark nam
 leaves_given : (session : ℕ) (o : Option Reader) (n : ℕ) (s : State) → TablesAreThere s → KeepsTables s ((given session o n s).1)
 leaves_given session None n s k = leaves-self s k
 leaves_given session (Some r) n s k =
-    leaves-unless (no_skip (next_place_of r n s)) ((given_to session r n s).0) ((given_to session r n s).1) s k (leaves-self s k)
+    leaves-unless (no_skip (next_read_of r n s)) ((given_to session r n s).0) ((given_to session r n s).1) s k (leaves-self s k)
 
 leaves_closed : (session : ℕ) (o : Option Reader) (s : State) → TablesAreThere s → KeepsTables s ((closed session o s).1)
 leaves_closed session None s k = leaves-self s k
@@ -240,7 +240,7 @@ leaves_closed session (Some r) s k = leaves-self s k
 
 -- ---- checkpoints
 
-through_copied : (base : State) (n : ℕ) (o : Option Begun) (s : State) → KeepsTables base s → KeepsTables base (copied n o s)
+through_copied : (base : State) (n : ℕ) (o : Option Underway) (s : State) → KeepsTables base s → KeepsTables base (copied n o s)
 through_copied base n None s k = k
 through_copied base n (Some b) s k = k
 
@@ -252,15 +252,15 @@ through_begin : (base s : State) → KeepsTables base s → KeepsTables base (be
 unfolding begin_checkpoint
 through_begin base s k = k
 
-through_completed : (base : State) (b : Begun) (s : State) → KeepsTables base s → KeepsTables base (completed b s)
+through_completed : (base : State) (b : Underway) (s : State) → KeepsTables base s → KeepsTables base (completed b s)
 unfolding completed all_forced
 through_completed base b s k = k
 
-through_due : (base : State) (b : Begun) (s : State) (c : Bool) → KeepsTables base s → KeepsTables base (if c then completed b s else s)
+through_due : (base : State) (b : Underway) (s : State) (c : Bool) → KeepsTables base s → KeepsTables base (if c then completed b s else s)
 through_due base b s true k = through_completed base b s k
 through_due base b s false k = k
 
-through_where : (base : State) (o : Option Begun) (s : State) → KeepsTables base s → KeepsTables base (complete_where_due o s)
+through_where : (base : State) (o : Option Underway) (s : State) → KeepsTables base s → KeepsTables base (complete_where_due o s)
 through_where base None s k = k
 through_where base (Some b) s k = through_due base b s (length b.left == 0) k
 
@@ -268,7 +268,7 @@ through_completion : (base s : State) → KeepsTables base s → KeepsTables bas
 unfolding with_completion
 through_completion base s k = through_where base s.underway s k
 
-through_after : (base : State) (o : Option Begun) (s : State) → KeepsTables base s → KeepsTables base (completion_after o s)
+through_after : (base : State) (o : Option Underway) (s : State) → KeepsTables base s → KeepsTables base (completion_after o s)
 through_after base None s k = k
 through_after base (Some b) s k = through_completion base s k
 
@@ -338,11 +338,11 @@ leaves-answers session (Ok command) s reply after h k (inr w) = elim (w.2) [
 
 -- ---- each round
 
-there_copied : (n : ℕ) (o : Option Begun) (s : State) → TablesAreThere s → TablesAreThere (copied n o s)
+there_copied : (n : ℕ) (o : Option Underway) (s : State) → TablesAreThere s → TablesAreThere (copied n o s)
 there_copied n None s k = k
 there_copied n (Some b) s k = k
 
-from_copied : (n : ℕ) (o : Option Begun) (s after : State) → KeepsTables (copied n o s) after → KeepsTables s after
+from_copied : (n : ℕ) (o : Option Underway) (s after : State) → KeepsTables (copied n o s) after → KeepsTables s after
 from_copied n None s after k = k
 from_copied n (Some b) s after k = k
 

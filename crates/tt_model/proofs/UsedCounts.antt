@@ -2,7 +2,7 @@
 use Rattle.std.proofs.Common.{◌≡◌, ◌≤◌, ◌<◌, ◌+◌, inl, ℕ, zero, suc, Bool, true, false, cond, ◌||◌, nat_eq, List, [], ◌∷◌, length, Option, None, refl, ap, ◌∙◌, arith, le_refl}
 use Rattle.std.proofs.lemmas.Bool.{eqb-true, false_from_ne_true}
 use Rattle.tt_value.specs.declared.value.Cell.TheVariants.{Empty}
-use Rattle.tt_record.specs.Entries.{IsTransaction}
+use Rattle.tt_record.specs.Entry.{IsTransaction}
 use Rattle.tt_record.specs.declared.entry.Entry.TheVariants.{Change}
 use Rattle.tt_model.specs.Committed.{committed}
 use Rattle.tt_model.specs.Live.{numbers_from}

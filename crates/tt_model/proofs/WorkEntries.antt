@@ -18,8 +18,8 @@ use Rattle.tt_model.specs.System.{deletes}
 use Rattle.tt_model.specs.Backups.{backup_refusal, kind_done, row_of_set, set_edit}
 use Rattle.tt_model.specs.State.{State, all_forced, live_in, next, reversals, with_entry, write_position}
 use Rattle.tt_model.specs.declared.definition.CellEdit.{CellEdit}
-use Rattle.tt_model.specs.Step.{backup_place, checkpoint_open, edit_length, end_length, forced_where, is_durable, least_open, no_checkpoint_number, no_number, no_number_for, no_place, no_system_place, number_for, rollback_lengths}
-use Rattle.tt_model.specs.Run.{ended_one, has_place}
+use Rattle.tt_model.specs.Step.{backup_position, checkpoint_open, edit_length, end_length, forced_where, is_durable, least_open, no_checkpoint_number, no_number, no_number_for, no_position, no_system_position, number_for, rollback_lengths}
+use Rattle.tt_model.specs.Run.{ended_one, has_position}
 use Rattle.tt_model.specs.WholeRuns.{Each}
 use Rattle.tt_model.specs.StepLaws.{EachOfWorks}
 use Rattle.tt_model.specs.Works.{Work, all_performed, changes, force_where, no_work, performed, rolled_entries, row_work, stop_works, system_work, unless_refused, with_entries, work_behind, work_of_all, work_of_blocking, work_of_commit, work_of_edits, work_of_rollback, work_of_statement, work_of_system, works_of, works_of_backup, works_of_kind, works_unless}
@@ -100,7 +100,7 @@ module _ (P : Entry → Type 0) (N : ℕ → Type 0) (session : ℕ) (command : 
   edits_each [] is = tt
   edits_each (e ∷ es) is =
       let first : Option Refusal = no_number_for (s.own session) s in
-      let second : Option Refusal = no_place (map edit_length (e ∷ es)) s in
+      let second : Option Refusal = no_position (map edit_length (e ∷ es)) s in
       unless_each (option_or first second) (record { entries = changes (number_for (s.own session) s) (e ∷ es) s; force = false })
       (λ none. parts.edits (e ∷ es) (number_for (s.own session) s) is (may_is (s.own session) refl) (number_is (s.own session) refl (none-first first second none)))
 
@@ -111,20 +111,20 @@ module _ (P : Entry → Type 0) (N : ℕ → Type 0) (session : ℕ) (command : 
 
   commit_each : (o : Option ℕ) → s.own session ≡ o → Each P (work_of_commit session o s).entries
   commit_each None is = tt
-  commit_each (Some t) is = unless_each (no_place (end_length ∷ []) s) (record { entries = Commit t ∷ []; force = is_durable session s }) (λ none. (parts.commit t (parts.own t is), tt))
+  commit_each (Some t) is = unless_each (no_position (end_length ∷ []) s) (record { entries = Commit t ∷ []; force = is_durable session s }) (λ none. (parts.commit t (parts.own t is), tt))
 
   rollback_each : (o : Option ℕ) → s.own session ≡ o → Each P (work_of_rollback o s).entries
   rollback_each None is = tt
   rollback_each (Some t) is =
-      unless_each (no_place (rollback_lengths t s) s) (record { entries = rolled_entries t s; force = false })
+      unless_each (no_position (rollback_lengths t s) s) (record { entries = rolled_entries t s; force = false })
       (λ none. each-append P (changes t (reversals t s.entries) s) (Abort t ∷ []) (parts.reversed t is) (parts.abort t (parts.own t is), tt))
 
   system_each : (m : Meant) → meant session command s ≡ m → Each P (work_of_system m s).entries
   system_each (Refuses r) is = tt
   system_each (Gives rows) is = tt
   system_each (Makes edits) is =
-      let second : Option Refusal = no_place (map edit_length edits ++ end_length ∷ []) s in
-      unless_each (no_system_place edits s) (system_work edits s)
+      let second : Option Refusal = no_position (map edit_length edits ++ end_length ∷ []) s in
+      unless_each (no_system_position edits s) (system_work edits s)
       (λ none. let number : N (next s) = parts.next (none-first (no_number s) second none) in
       each-append P (changes (next s) edits s) (Commit (next s) ∷ []) (parts.edits edits (next s) is (inr refl) number) (parts.commit (next s) number, tt))
 
@@ -146,24 +146,24 @@ module _ (P : Entry → Type 0) (N : ℕ → Type 0) (session : ℕ) (command : 
       (parts.commit (next (all_forced s)) number, tt)
 
   abbrev no_stop : Option PlacedRow → Option Refusal
-  no_stop o = elim o [ None ↦ None | Some r ↦ no_system_place (deletes 6 r ∷ []) s ]
+  no_stop o = elim o [ None ↦ None | Some r ↦ no_system_position (deletes 6 r ∷ []) s ]
 
   stop_each : (set : ℕ) (o : Option PlacedRow) → row_of_set set s ≡ o → no_stop o ≡ None → EachOfWorks P (stop_works s o)
   stop_each set None is none = tt
   stop_each set (Some r) is none =
-      let number : N (next s) = parts.next (none-first (no_number s) (no_place (map edit_length (deletes 6 r ∷ []) ++ end_length ∷ []) s) none) in (
+      let number : N (next s) = parts.next (none-first (no_number s) (no_position (map edit_length (deletes 6 r ∷ []) ++ end_length ∷ []) s) none) in (
         each-append P (changes (next s) (deletes 6 r ∷ []) s) (Commit (next s) ∷ []) (parts.stopped set (next s) r is number) (parts.commit (next s) number, tt),
         tt,
       )
 
-  backup_each : (set : ℕ) (kind done : BackupKind) → command ≡ BackupLine set kind → kind_done kind set s ≡ done → backup_refusal session s set done ≡ None → backup_place set done s ≡ None →
+  backup_each : (set : ℕ) (kind done : BackupKind) → command ≡ BackupLine set kind → kind_done kind set s ≡ done → backup_refusal session s set done ≡ None → backup_position set done s ≡ None →
       EachOfWorks P (works_of_backup set done s)
   backup_each set kind Full is same allowed none = (tt, tt)
   backup_each set kind FullEnable is same allowed none =
-      let second : Option Refusal = no_place (map edit_length (set_edit (row_of_set set s) set (write_position s) ∷ []) ++ end_length ∷ []) s in
+      let second : Option Refusal = no_position (map edit_length (set_edit (row_of_set set s) set (write_position s) ∷ []) ++ end_length ∷ []) s in
       (tt, (row_each set kind is (ap writes_row same) (ap (backup_refusal session s set) same ∙ allowed) (none-first (no_number s) second none), tt))
   backup_each set kind Incremental is same allowed none =
-      let second : Option Refusal = no_place (map edit_length (set_edit (row_of_set set s) set (write_position s) ∷ []) ++ end_length ∷ []) s in
+      let second : Option Refusal = no_position (map edit_length (set_edit (row_of_set set s) set (write_position s) ∷ []) ++ end_length ∷ []) s in
       (tt, (row_each set kind is (ap writes_row same) (ap (backup_refusal session s set) same ∙ allowed) (none-first (no_number s) second none), tt))
   backup_each set kind Stop is same allowed none = stop_each set (row_of_set set s) refl none
   backup_each set kind IncrOrFull is same allowed none = tt
@@ -172,7 +172,7 @@ module _ (P : Entry → Type 0) (N : ℕ → Type 0) (session : ℕ) (command : 
   kind_each set kind is =
       let done : BackupKind = kind_done kind set s in
       let first : Option Refusal = backup_refusal session s set done in
-      let second : Option Refusal = backup_place set done s in
+      let second : Option Refusal = backup_position set done s in
       works_each (option_or first second) (works_of_backup set done s)
       (λ none. backup_each set kind done is refl (none-first first second none) (none-second first second none))
 
@@ -225,4 +225,4 @@ module _ (P : Entry → Type 0) (N : ℕ → Type 0) (I : State → Type 0) (abo
   pub end-have : (ts : List ℕ) (s : State) → I s → Each N ts → Each P (work_of_all ts s).entries
   end-have [] s h ns = tt
   end-have (t ∷ ts) s h ns =
-      next-have t s (work_of_all ts (ended_one t s)) (rolled-have t s h (ns.0)) (end-have ts (ended_one t s) (keeps t s h (ns.0)) (ns.1)) (has_place t s)
+      next-have t s (work_of_all ts (ended_one t s)) (rolled-have t s h (ns.0)) (end-have ts (ended_one t s) (keeps t s h (ns.0)) (ns.1)) (has_position t s)

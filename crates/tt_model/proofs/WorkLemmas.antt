@@ -16,24 +16,24 @@ use Rattle.tt_parse.specs.declared.command.BackupKind.{BackupKind}
 use Rattle.tt_parse.specs.declared.command.BackupKind.TheVariants.{Full, FullEnable, Incremental, IncrOrFull, Stop}
 use Rattle.tt_record.specs.declared.entry.Entry.{Entry}
 use Rattle.tt_record.specs.declared.entry.Entry.TheVariants.{Change, Commit, Abort}
-use Rattle.tt_record.specs.Entries.{length_of}
-use Rattle.tt_record.specs.Places.{next_place}
+use Rattle.tt_record.specs.Entry.{length_of}
+use Rattle.tt_record.specs.Place.{next_position}
 use Rattle.tt_set.specs.declared.settings.Settings.{Settings}
 use Rattle.tt_model.specs.Trail.{Trail, trail_end}
-use Rattle.tt_model.specs.Found.{Found}
+use Rattle.tt_model.specs.Opened.{Opened}
 use Rattle.tt_model.specs.Forced.{forced_for}
 use Rattle.tt_model.specs.Live.{least_free, in_use, pages_after}
 use Rattle.tt_model.specs.Committed.{committed}
 use Rattle.tt_model.specs.Meaning.{Meant, Refuses, Gives, Makes, aggregate_refusal, aggregate_value, first_of, meant_by_select, select_in, select_refusal, shown, unless}
 use Rattle.tt_model.specs.Tables.{PlacedRow, Table, table_named}
-use Rattle.tt_model.specs.Sets.{SetStanding, Sound}
+use Rattle.tt_model.specs.Sets.{SetStanding, Readable}
 use Rattle.tt_model.specs.System.{bookmark, deletes, reader_on}
 use Rattle.tt_model.specs.Checkpoint.{begin_checkpoint, begun_in, completed, copied, with_all_copies, with_completion}
 use Rattle.tt_model.specs.Backups.{kind_done, backup_refusal, row_of_set, set_edit, full_now, extended_now, with_set}
-use Rattle.tt_model.specs.State.{State, catalog, Begun, Reader, all_forced, at_one, free_place, live_in, next, place_for, placed, reversals, trail, with_edit, with_edits, with_entry, write_position}
+use Rattle.tt_model.specs.State.{State, catalog, Underway, Reader, all_forced, at_one, free_place, live_in, next, place_for, placed, reversals, trail, with_edit, with_edits, with_entry, write_position}
 use Rattle.tt_model.specs.declared.definition.CellEdit.{CellEdit}
-use Rattle.tt_model.specs.Step.{backed_up, backup_kind, backup_place, begun_reply, checkpoint_open, closed, commit_of, edit_length, end_length, forced_where, given, is_durable, least_open, line, made, made_in, no_checkpoint_number, no_number_for, no_place, no_system_place, number_for, open_at, refused, rollback_lengths, rollback_of, rolled_back, settled, statement, system, system_done, unless_refused as answer_unless, no_skip, given_to, next_place_of}
-use Rattle.tt_model.specs.Run.{ended, ended_one, has_place, roll_all}
+use Rattle.tt_model.specs.Step.{backed_up, backup_kind, backup_position, begun_reply, checkpoint_open, closed, commit_of, edit_length, end_length, forced_where, given, is_durable, least_open, line, made, made_in, no_checkpoint_number, no_number_for, no_position, no_system_position, number_for, open_at, refused, rollback_lengths, rollback_of, rolled_back, session_ended, statement, system, system_done, unless_refused as answer_unless, no_skip, given_to, next_read_of}
+use Rattle.tt_model.specs.Run.{ended, ended_one, has_position, roll_all}
 use Rattle.tt_model.proofs.FileLemmas.{none_left}
 use Rattle.tt_model.specs.Works.{LinesAreWorks, SameLog, Work, all_performed, changes, force_where, is_blocking_line, no_work, performed, rolled_entries, stop_works, system_work, unless_refused, with_entries, work_behind, work_of_all, work_of_commit, work_of_edits, work_of_end, work_of_rollback, work_of_statement, work_of_system, works_of, works_of_backup, works_of_kind, works_unless}
 
@@ -53,10 +53,10 @@ same_then a b c x y = record {
 }
 
 end_same : (a b : State) → SameLog a b → write_position a ≡ write_position b
-end_same a b x = ap₂ (λ (f : Found) (es : Trail). trail_end f.end es) x.found x.entries
+end_same a b x = ap₂ (λ (f : Opened) (es : Trail). trail_end f.end es) x.found x.entries
 
 trail_same : (a b : State) → SameLog a b → trail a ≡ trail b
-trail_same a b x = ap₂ (λ (es : Trail) (f : Found). es ++ f.entries) x.entries x.found
+trail_same a b x = ap₂ (λ (es : Trail) (f : Opened). es ++ f.entries) x.entries x.found
 
 size_same : (a b : State) → SameLog a b → a.settings.log_file_size ≡ b.settings.log_file_size
 size_same a b x = ap (λ (t : Settings). t.log_file_size) x.settings
@@ -69,7 +69,7 @@ forced_same n a b x =
     ∙ ap (λ k. forced_for b.settings.log_file_size b.settings.log_buf_size (write_position b) n (trail b) k) x.forced
 
 placed_same : (e : Entry) (a b : State) → SameLog a b → placed e a ≡ placed e b
-placed_same e a b x = ap₂ (λ end size. record { at = next_place end (length_of e) size; entry = e }) (end_same a b x) (size_same a b x)
+placed_same e a b x = ap₂ (λ end size. record { at = next_position end (length_of e) size; entry = e }) (end_same a b x) (size_same a b x)
 
 pub entry_same : (e : Entry) (a b : State) → SameLog a b → SameLog (with_entry e a) (with_entry e b)
 unfolding with_entry
@@ -99,7 +99,7 @@ performed_same w a b x = where_same w.force (with_entries w.entries a) (with_ent
 
 free_same : (a b : State) → SameLog a b → free_place a ≡ free_place b
 free_same a b x =
-    ap₂ (λ (f : Found) (es : Trail). least_free (in_use (committed f.cells es) (es ++ f.entries)) (32 * a.pages)) x.found x.entries
+    ap₂ (λ (f : Opened) (es : Trail). least_free (in_use (committed f.cells es) (es ++ f.entries)) (32 * a.pages)) x.found x.entries
     ∙ ap (λ k. least_free (in_use (committed b.found.cells b.entries) (trail b)) (32 * k)) x.pages
 
 place_same : (o : Option ℕ) (a b : State) → SameLog a b → place_for o a ≡ place_for o b
@@ -134,7 +134,7 @@ made_same : (session : ℕ) (edits : List CellEdit) (s : State) → SameLog ((ma
 made_same session [] s = same_log s
 made_same session (e ∷ es) s =
     let t : ℕ = number_for (s.own session) s in
-    unless_same (option_or (no_number_for (s.own session) s) (no_place (map edit_length (e ∷ es)) s)) (Changed (suc (length es))) (made_in session t (e ∷ es) s) s (record { entries = changes t (e ∷ es) s; force = false })
+    unless_same (option_or (no_number_for (s.own session) s) (no_position (map edit_length (e ∷ es)) s)) (Changed (suc (length es))) (made_in session t (e ∷ es) s) s (record { entries = changes t (e ∷ es) s; force = false })
     (beside t (equal_log (with_edits t (e ∷ es) s) (with_entries (changes t (e ∷ es) s) s) (edits_are t (e ∷ es) s)))
   where
     beside : (t : ℕ) → SameLog (with_edits t (e ∷ es) s) (with_entries (changes t (e ∷ es) s) s) → SameLog (made_in session t (e ∷ es) s) (with_entries (changes t (e ∷ es) s) s)
@@ -145,14 +145,14 @@ statement_same session (Refuses r) s = same_log s
 statement_same session (Gives rows) s = same_log s
 statement_same session (Makes edits) s = made_same session edits s
 
-settled_same : (session : ℕ) (a b : State) → SameLog a b → SameLog (settled session a) b
+settled_same : (session : ℕ) (a b : State) → SameLog a b → SameLog (session_ended session a) b
 settled_same session a b x = record { settings = x.settings; found = x.found; entries = x.entries; forced = x.forced; pages = x.pages; files = x.files }
 
 commit_same : (session : ℕ) (o : Option ℕ) (s : State) → SameLog ((commit_of session o s).1) (performed (work_of_commit session o s) s)
 commit_same session None s = settled_same session (forced_where (is_durable session s) s) (forced_where (is_durable session s) s) (same_log (forced_where (is_durable session s) s))
 commit_same session (Some t) s =
     let end : State = forced_where (is_durable session s) (with_entry (Commit t) s) in
-    unless_same (no_place (end_length ∷ []) s) Done (settled session end) s (record { entries = Commit t ∷ []; force = is_durable session s }) (settled_same session end end (same_log end))
+    unless_same (no_position (end_length ∷ []) s) Done (session_ended session end) s (record { entries = Commit t ∷ []; force = is_durable session s }) (settled_same session end end (same_log end))
 
 pub rolled_same : (t : ℕ) (s : State) → SameLog (rolled_back t s) (with_entries (rolled_entries t s) s)
 rolled_same t s = equal_log (rolled_back t s) (with_entries (rolled_entries t s) s) (edits_then t (reversals t s.entries) (Abort t) s)
@@ -160,7 +160,7 @@ rolled_same t s = equal_log (rolled_back t s) (with_entries (rolled_entries t s)
 rollback_same : (session : ℕ) (o : Option ℕ) (s : State) → SameLog ((rollback_of session o s).1) (performed (work_of_rollback o s) s)
 rollback_same session None s = settled_same session s s (same_log s)
 rollback_same session (Some t) s =
-    unless_same (no_place (rollback_lengths t s) s) Done (settled session (rolled_back t s)) s (record { entries = rolled_entries t s; force = false })
+    unless_same (no_position (rollback_lengths t s) s) Done (session_ended session (rolled_back t s)) s (record { entries = rolled_entries t s; force = false })
     (settled_same session (rolled_back t s) (with_entries (rolled_entries t s) s) (rolled_same t s))
 
 system_done_same : (edits : List CellEdit) (s : State) → SameLog (system_done edits s) (performed (system_work edits s) s)
@@ -170,7 +170,7 @@ system_done_same edits s =
 system_same : (m : Meant) (s : State) → SameLog ((system m s).1) (performed (work_of_system m s) s)
 system_same (Refuses r) s = same_log s
 system_same (Gives rows) s = same_log s
-system_same (Makes edits) s = unless_same (no_system_place edits s) Done (system_done edits s) s (system_work edits s) (system_done_same edits s)
+system_same (Makes edits) s = unless_same (no_system_position edits s) Done (system_done edits s) s (system_work edits s) (system_done_same edits s)
 
 -- ---- selects
 
@@ -220,7 +220,7 @@ opened_same session name s false = open_same session name (bookmark name s) s
 
 given_same : (session : ℕ) (o : Option Reader) (n : ℕ) (s : State) → SameLog ((given session o n s).1) s
 given_same session None n s = same_log s
-given_same session (Some r) n s = answer_same (no_skip (next_place_of r n s)) ((given_to session r n s).0) ((given_to session r n s).1) s (reader_same _ s)
+given_same session (Some r) n s = answer_same (no_skip (next_read_of r n s)) ((given_to session r n s).0) ((given_to session r n s).1) s (reader_same _ s)
 
 closed_same : (session : ℕ) (o : Option Reader) (s : State) → SameLog ((closed session o s).1) s
 closed_same session None s = same_log s
@@ -259,8 +259,8 @@ stop_same s None = same_log s
 stop_same s (Some r) = system_done_same (deletes 6 r ∷ []) s
 
 backed_same : (set : ℕ) (kind : BackupKind) (s : State) → SameLog ((backed_up set kind s).1) (all_performed (works_of_backup set kind s) s)
-backed_same set Full s = set_same set (Some (Sound (full_now s))) (all_forced s)
-backed_same set FullEnable s = row_same set (Some (Sound (full_now s))) (set_edit (row_of_set set s) set (write_position s) ∷ []) s
+backed_same set Full s = set_same set (Some (Readable (full_now s))) (all_forced s)
+backed_same set FullEnable s = row_same set (Some (Readable (full_now s))) (set_edit (row_of_set set s) set (write_position s) ∷ []) s
 backed_same set Incremental s = row_same set (extended_now (s.sets set) s) (set_edit (row_of_set set s) set (write_position s) ∷ []) s
 backed_same set Stop s = stop_same s (row_of_set set s)
 backed_same set IncrOrFull s = same_log s
@@ -271,7 +271,7 @@ works_same (Some r) reply after s ws x = same_log s
 
 backup_same : (session set : ℕ) (kind : BackupKind) (s : State) → SameLog ((backup_kind session set kind s).1) (all_performed (works_of_kind session set kind s) s)
 backup_same session set kind s =
-    works_same (option_or (backup_refusal session s set kind) (backup_place set kind s)) ((backed_up set kind s).0) ((backed_up set kind s).1) s (works_of_backup set kind s) (backed_same set kind s)
+    works_same (option_or (backup_refusal session s set kind) (backup_position set kind s)) ((backed_up set kind s).0) ((backed_up set kind s).1) s (works_of_backup set kind s) (backed_same set kind s)
 
 -- ---- all lines
 
@@ -309,11 +309,11 @@ line_same session CkptBlocking s n = absurd (true≢false n)
 
 -- ---- checkpoints that complete at once
 
-whole_same : (b : Begun) (s t : State) (files : ℕ → Bool) → SameLog s t → SameLog (record (completed b s) { files = files }) (record (all_forced t) { files = files })
+whole_same : (b : Underway) (s t : State) (files : ℕ → Bool) → SameLog s t → SameLog (record (completed b s) { files = files }) (record (all_forced t) { files = files })
 unfolding completed all_forced
 whole_same b s t files x = record { settings = x.settings; found = x.found; entries = x.entries; forced = ap length (trail_same s t x); pages = x.pages; files = refl }
 
-whole_where : (b : Begun) (s t : State) (c : Bool) → c ≡ true → SameLog s t → SameLog (record (cond c (completed b s) s) { files = t.files }) (all_forced t)
+whole_where : (b : Underway) (s t : State) (c : Bool) → c ≡ true → SameLog s t → SameLog (record (cond c (completed b s) s) { files = t.files }) (all_forced t)
 unfolding all_forced
 whole_where b s t c is x =
     subst (λ c. SameLog (record (cond c (completed b s) s) { files = t.files }) (all_forced t)) (sym is) (whole_same b s t t.files x)
@@ -321,7 +321,7 @@ whole_where b s t c is x =
 completes_same : (s : State) → SameLog (record (with_completion (with_all_copies (begin_checkpoint s))) { files = s.files }) (all_forced s)
 unfolding with_completion with_all_copies begin_checkpoint
 completes_same s =
-    let b : Begun = record (begun_in s) { left = drop s.pages ((begun_in s).left) } in
+    let b : Underway = record (begun_in s) { left = drop s.pages ((begun_in s).left) } in
     whole_where b (copied s.pages (Some (begun_in s)) (begin_checkpoint s)) s (length b.left == 0) (ap (λ (l : List ℕ). length l == 0) (none_left s))
     (record { settings = refl; found = refl; entries = refl; forced = refl; pages = refl; files = refl })
 
@@ -337,7 +337,7 @@ blocking_same session s = by (option_or (checkpoint_open s) (option_or (least_op
 
 roll_same : (ts : List ℕ) (s : State) → SameLog ((roll_all ts s).1) (performed (work_of_all ts s) s)
 roll_same [] s = same_log (all_forced s)
-roll_same (t ∷ ts) s = by (has_place t s) (roll_same ts (ended_one t s))
+roll_same (t ∷ ts) s = by (has_position t s) (roll_same ts (ended_one t s))
   where
     rolled : State
     rolled = with_entries (rolled_entries t s) s

@@ -10,19 +10,19 @@ use Rattle.tt_parse.specs.declared.command.BackupKind.TheVariants.{Full, FullEna
 use Rattle.tt_record.specs.declared.entry.Entry.{Entry}
 use Rattle.tt_record.specs.declared.entry.Entry.TheVariants.{Commit, Abort}
 use Rattle.tt_model.specs.Tables.{PlacedRow}
-use Rattle.tt_model.specs.State.{State, Begun, all_forced, at_one, live_in, next, reversals, write_position}
+use Rattle.tt_model.specs.State.{State, Underway, all_forced, at_one, live_in, next, reversals, write_position}
 use Rattle.tt_model.specs.declared.definition.CellEdit.{CellEdit}
 use Rattle.tt_model.specs.Checkpoint.{copied, with_copies, without_pages}
 use Rattle.tt_model.specs.Meaning.{Meant, Refuses, Gives, Makes}
 use Rattle.tt_model.specs.Meant.{meant}
 use Rattle.tt_model.specs.System.{deletes}
 use Rattle.tt_model.specs.Backups.{kind_done, row_of_set, set_edit}
-use Rattle.tt_model.specs.Step.{edit_length, least_open, no_checkpoint_number, no_number_for, no_place, no_system_place, number_for, rollback_lengths}
+use Rattle.tt_model.specs.Step.{edit_length, least_open, no_checkpoint_number, no_number_for, no_position, no_system_position, number_for, rollback_lengths}
 use Rattle.tt_model.specs.Works.{SameLog, Work, changes, force_where, row_work, stop_works, unless_refused, work_of_blocking, work_of_commit, work_of_edits, work_of_rollback, work_of_statement, work_of_system, works_of, works_of_backup, works_of_kind, works_unless}
 use Rattle.tt_model.proofs.MeantApart.{aside, backup_place-aside, kind-aside, meant-aside, refusal-aside}
 use Rattle.tt_model.proofs.WorkLemmas.{changes_same}
 
-module _ (stale : ℕ → ℕ → Bool) (u : Option Begun) (s : State) where
+module _ (stale : ℕ → ℕ → Bool) (u : Option Underway) (s : State) where
   abbrev other : State
   other = aside stale u s
 
@@ -33,11 +33,11 @@ module _ (stale : ℕ → ℕ → Bool) (u : Option Begun) (s : State) where
   edits_alike t edits = changes_same t edits other s same
 
   abbrev work_for : Option ℕ → List CellEdit → State → Work
-  work_for o edits x = unless_refused (option_or (no_number_for o x) (no_place (map edit_length edits) x)) (record { entries = changes (number_for o x) edits x; force = false })
+  work_for o edits x = unless_refused (option_or (no_number_for o x) (no_position (map edit_length edits) x)) (record { entries = changes (number_for o x) edits x; force = false })
 
   for_alike : (o : Option ℕ) (edits : List CellEdit) → work_for o edits other ≡ work_for o edits s
-  for_alike None edits = ap (λ (es : List Entry). unless_refused (option_or (no_number_for None s) (no_place (map edit_length edits) s)) (record { entries = es; force = false })) (edits_alike (next s) edits)
-  for_alike (Some t) edits = ap (λ (es : List Entry). unless_refused (option_or None (no_place (map edit_length edits) s)) (record { entries = es; force = false })) (edits_alike t edits)
+  for_alike None edits = ap (λ (es : List Entry). unless_refused (option_or (no_number_for None s) (no_position (map edit_length edits) s)) (record { entries = es; force = false })) (edits_alike (next s) edits)
+  for_alike (Some t) edits = ap (λ (es : List Entry). unless_refused (option_or None (no_position (map edit_length edits) s)) (record { entries = es; force = false })) (edits_alike t edits)
 
   of_edits : (session : ℕ) (edits : List CellEdit) → work_of_edits session edits other ≡ work_of_edits session edits s
   of_edits session [] = refl
@@ -55,13 +55,13 @@ module _ (stale : ℕ → ℕ → Bool) (u : Option Begun) (s : State) where
   of_rollback : (o : Option ℕ) → work_of_rollback o other ≡ work_of_rollback o s
   of_rollback None = refl
   of_rollback (Some t) =
-      ap (λ (es : List Entry). unless_refused (no_place (rollback_lengths t s) s) (record { entries = es ++ Abort t ∷ []; force = false })) (edits_alike t (reversals t s.entries))
+      ap (λ (es : List Entry). unless_refused (no_position (rollback_lengths t s) s) (record { entries = es ++ Abort t ∷ []; force = false })) (edits_alike t (reversals t s.entries))
 
   of_system : (m : Meant) → work_of_system m other ≡ work_of_system m s
   of_system (Refuses r) = refl
   of_system (Gives rows) = refl
   of_system (Makes edits) =
-      ap (λ (es : List Entry). unless_refused (no_system_place edits s) (record { entries = es ++ Commit (next s) ∷ []; force = s.settings.durable_commits })) (edits_alike (next s) edits)
+      ap (λ (es : List Entry). unless_refused (no_system_position edits s) (record { entries = es ++ Commit (next s) ∷ []; force = s.settings.durable_commits })) (edits_alike (next s) edits)
 
   -- ---- backups
 
@@ -130,11 +130,11 @@ module _ (stale : ℕ → ℕ → Bool) (u : Option Begun) (s : State) where
   works-aside session CkptBlocking h = ap alone h
 
 -- A blocking checkpoint is refused, where one is under way.
-blocking_alike : (stale : ℕ → ℕ → Bool) (b : Begun) (left : List ℕ) (s : State) → s.underway ≡ Some b → work_of_blocking (aside stale (Some (record b { left = left })) s) ≡ work_of_blocking s
+blocking_alike : (stale : ℕ → ℕ → Bool) (b : Underway) (left : List ℕ) (s : State) → s.underway ≡ Some b → work_of_blocking (aside stale (Some (record b { left = left })) s) ≡ work_of_blocking s
 blocking_alike stale b left s is =
-    ap (λ (o : Option Begun). unless_refused (option_or (option_map (λ (x : Begun). CkptOpen x.number) o) (option_or (least_open (live_in s)) (no_checkpoint_number s))) (force_where true)) (sym is)
+    ap (λ (o : Option Underway). unless_refused (option_or (option_map (λ (x : Underway). CkptOpen x.number) o) (option_or (least_open (live_in s)) (no_checkpoint_number s))) (force_where true)) (sym is)
 
-copied_works : (session : ℕ) (command : Command) (n : ℕ) (s : State) (o : Option Begun) → s.underway ≡ o → works_of session command (copied n o s) ≡ works_of session command s
+copied_works : (session : ℕ) (command : Command) (n : ℕ) (s : State) (o : Option Underway) → s.underway ≡ o → works_of session command (copied n o s) ≡ works_of session command s
 copied_works session command n s None is = refl
 copied_works session command n s (Some b) is =
     let stale : ℕ → ℕ → Bool = at_one b.file (without_pages (take n b.left) (s.stale b.file)) s.stale in

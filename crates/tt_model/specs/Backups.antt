@@ -7,8 +7,8 @@ use Rattle.tt_parse.specs.declared.command.BackupKind.{BackupKind}
 use Rattle.tt_parse.specs.declared.command.BackupKind.TheVariants.{Full, FullEnable, Incremental, IncrOrFull, Stop}
 use Rattle.tt_model.specs.Trail.{position_lt}
 use Rattle.tt_model.specs.Committed.{current}
-use Rattle.tt_model.specs.Found.{Head}
-use Rattle.tt_model.specs.Sets.{BackupSet, SetStanding, Sound, Unsound, set_end, full_set, extended}
+use Rattle.tt_model.specs.Opened.{Head}
+use Rattle.tt_model.specs.Sets.{BackupSet, SetStanding, Readable, Unreadable, set_end, full_set, extended}
 use Rattle.tt_model.specs.Tables.{PlacedRow, set_row, position_at}
 use Rattle.tt_model.specs.State.{State, at_one, trail, cells_of, bound, newest_number, next, low_now, write_position, force_position}
 use Rattle.tt_model.specs.declared.definition.CellEdit.{CellEdit}
@@ -29,8 +29,8 @@ is_behind (Some r) b s = position_lt (set_end b) (position_at 1 r) || position_l
 
 abbrev pub is_not_incremental : Option PlacedRow → Option SetStanding → State → Bool
 is_not_incremental row None s = false
-is_not_incremental row (Some Unsound) s = true
-is_not_incremental row (Some (Sound b)) s = is_behind row b s
+is_not_incremental row (Some Unreadable) s = true
+is_not_incremental row (Some (Readable b)) s = is_behind row b s
 
 abbrev pub first_row_refusal : ℕ → State → Option Refusal
 first_row_refusal set s =
@@ -60,7 +60,7 @@ full_now s = full_set (backup_head s) (current s.found.cells s.entries) (low_now
 
 -- An incremental backup adds to the set.
 abbrev pub extended_now : Option SetStanding → State → Option SetStanding
-extended_now (Some (Sound b)) s = Some (Sound (extended b (write_position s) (trail s)))
+extended_now (Some (Readable b)) s = Some (Readable (extended b (write_position s) (trail s)))
 extended_now other s = other
 
 abbrev pub with_set : ℕ → Option SetStanding → State → State

@@ -1,5 +1,5 @@
 -- What a condition means of a row, and what is refused of it.
-use Rattle.std.specs.Prelude.{ℕ, Bool, true, false, not, ◌&&◌, List, [], Option, Some, None, is_some, unwrap_or, if◌then◌else◌}
+use Rattle.std.specs.Prelude.{ℕ, Bool, true, false, not, ◌&&◌, List, [], Option, Some, None, is_some, unwrap_or, if◌then◌else◌, slice_get}
 use Rattle.tt_value.specs.declared.value.Value.{Value}
 use Rattle.tt_value.specs.declared.value.Value.TheVariants.{Null}
 use Rattle.tt_value.specs.declared.value.Row.{Row}
@@ -11,12 +11,11 @@ use Rattle.tt_parse.specs.declared.cond.Operand.{Operand}
 use Rattle.tt_parse.specs.declared.cond.Operand.TheVariants.{Literal, Column}
 use Rattle.tt_parse.specs.declared.cond.Cond.{Cond, fold-Cond}
 use Rattle.tt_parse.specs.declared.cond.Cond.TheOpen.{Cond-F, Compare, IsNull, Not, And, Or}
-use Rattle.tt_value.specs.Orders.{compared}
-use Rattle.tt_value.specs.Truths.{truth_of, negated, both_of, either_of}
+use Rattle.tt_value.specs.Order.{compared}
+use Rattle.tt_value.specs.Truth.{truth_of, negated, both_of, either_of}
 use Rattle.tt_model.specs.Values.{truth_compared, is_null, is_yes, is_text}
 use Rattle.tt_model.specs.Holders.{value_at}
 use Rattle.tt_model.specs.Tables.{Table, column_named}
-use Rattle.std.specs.Prelude.{slice_get}
 
 -- The value of a named column.
 abbrev pub value_named : Table → Row → List ℕ → Value

@@ -109,8 +109,8 @@ open_after hold (e ∷ older) = opened_by hold e e.entry ++ still_open e.entry (
 abbrev pub next_hold : Position → Position → Trail → Position
 next_hold hold at trail = greatest_position hold (least_of at (map (λ (c : ℕ × Position). c.1) (open_after hold (before at trail))))
 
-abbrev pub place_at : ReadPlace → Position → ℕ → Trail → ReadPlace
-place_at place at skip trail =
+abbrev pub read_at : ReadPlace → Position → ℕ → Trail → ReadPlace
+read_at place at skip trail =
     if position_eq at place.at
     then record { at = at; skip = skip; hold = place.hold }
     else record { at = at; skip = skip; hold = next_hold place.hold at trail }
@@ -119,12 +119,12 @@ abbrev pub last_of : DueChange → List DueChange → DueChange
 last_of d [] = d
 last_of d (e ∷ es) = last_of e es
 
-abbrev pub place_behind : ReadPlace → Trail → DueChange → ReadPlace
-place_behind place trail d = if d.given.last then place_at place d.end 0 trail else place_at place d.commit d.count trail
+abbrev pub read_after : ReadPlace → Trail → DueChange → ReadPlace
+read_after place trail d = if d.given.last then read_at place d.end 0 trail else read_at place d.commit d.count trail
 
 -- The read place once n were wanted and these were given.
 abbrev pub read_to : ReadPlace → ℕ → Position → Trail → List DueChange → ReadPlace
 read_to place n force trail given =
     if nat_lt (length given) n
-    then (if position_lt place.at force then place_at place force 0 trail else place)
-    else elim given [ [] ↦ place | d ∷ ds ↦ place_behind place trail (last_of d ds) ]
+    then (if position_lt place.at force then read_at place force 0 trail else place)
+    else elim given [ [] ↦ place | d ∷ ds ↦ read_after place trail (last_of d ds) ]

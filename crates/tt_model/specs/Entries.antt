@@ -6,7 +6,7 @@ use Rattle.tt_value.specs.declared.refusal.Refusal.{Refusal}
 use Rattle.tt_parse.specs.declared.command.Command.{Command}
 use Rattle.tt_record.specs.declared.entry.Entry.{Entry}
 use Rattle.tt_record.specs.declared.entry.Entry.TheVariants.{Switch}
-use Rattle.tt_record.specs.Entries.{IsEntry}
+use Rattle.tt_record.specs.Entry.{IsEntry}
 use Rattle.tt_model.specs.Trail.{Placed, Trail, placed_end}
 use Rattle.tt_model.specs.Ranges.{HasRanges, IsType}
 use Rattle.tt_model.specs.Tables.{Table}
@@ -14,6 +14,7 @@ use Rattle.tt_model.specs.WholeRuns.{Each}
 use Rattle.tt_parse.specs.declared.command.ColumnText.{ColumnText}
 use Rattle.tt_model.specs.State.{Reader, State, catalog, trail, write_position}
 use Rattle.tt_model.specs.System.{bookmark}
+use Rattle.tt_record.specs.Limits.{transactions_end}
 
 abbrev pub IsOfGrammar : Result Command Refusal → Type 0
 IsOfGrammar (Ok command) = HasRanges command
@@ -51,7 +52,7 @@ pub record HoldsStorable (s : State) : Type 0 where
   pub perm_pages : s.settings.perm_pages ≤ 65536
   pub pages : s.pages ≤ 65536
   pub first : 1 ≤ s.found.next
-  pub next : s.found.next ≤ 2 ^ 48
+  pub next : s.found.next ≤ transactions_end
 
 -- A table whose rows can be stored: it has a number, and 1 to 16 columns of types in their ranges.
 pub record IsStorableTable (t : Table) : Type 0 where

@@ -1,12 +1,12 @@
 -- How much of the trail is forced.
 use Rattle.std.specs.Prelude.{ℕ, ◌+◌, Bool, ◌||◌, nat_lt, length, sum_by, if◌then◌else◌}
 use Rattle.tt_value.specs.declared.position.Position.{Position}
-use Rattle.tt_record.specs.Places.{next_place}
+use Rattle.tt_record.specs.Place.{next_position}
 use Rattle.tt_model.specs.Trail.{Trail, placed_length, newest}
 
 -- Whether an entry of this length begins a new file behind an end.
 abbrev pub begins_file : Position → ℕ → ℕ → Bool
-begins_file end n file_size = nat_lt end.file ((next_place end n file_size).file)
+begins_file end n file_size = nat_lt end.file ((next_position end n file_size).file)
 
 -- The lengths of the entries after the first n together.
 abbrev pub unforced_length : ℕ → Trail → ℕ

@@ -12,11 +12,11 @@ use Rattle.tt_set.specs.declared.settings.Settings.{Settings}
 use Rattle.tt_model.specs.Trail.{Trail}
 use Rattle.tt_model.specs.Committed.{Cells, changed_by, committed, is_full}
 use Rattle.tt_model.specs.Live.{is_live}
-use Rattle.tt_model.specs.Found.{Found}
+use Rattle.tt_model.specs.Opened.{Opened}
 use Rattle.tt_model.specs.Sets.{SetStanding}
 use Rattle.tt_model.specs.Tables.{Catalog, Table, table_with}
 use Rattle.tt_model.specs.State.{State, bound, catalog, cells_of, new_among, trail}
-use Rattle.tt_model.specs.Damages.{first_bad_catalog, first_bad_row, has_misfit}
+use Rattle.tt_model.specs.Damage.{first_bad_catalog, first_bad_row, has_misfit}
 use Rattle.tt_model.specs.Entries.{HasKeptReaders, HasLogInRange, IsOfGrammar}
 use Rattle.tt_model.specs.GoodCatalog.{HasGoodCatalog}
 use Rattle.tt_model.specs.Sound.{IsSound}
@@ -52,7 +52,7 @@ FirstPartsFit s =
 -- A run over a database whose users' rows are good begins so. Each round keeps it, whatever its line, where no system row is damaged
 -- before and behind it; and so does the end of a run.
 pub record UsersRowsStayGood : Type 0 where
-  pub begun : (settings : Settings) (found : Found) (files : ℕ → Bool) (sets : ℕ → Option SetStanding) → IsSound (begun settings found files sets) →
+  pub begun : (settings : Settings) (found : Opened) (files : ℕ → Bool) (sets : ℕ → Option SetStanding) → IsSound (begun settings found files sets) →
       first_bad_row (bound (opened settings found files sets)) found.cells ≡ None → HasFittingRows (begun settings found files sets) × FirstPartsFit (begun settings found files sets)
   pub step : (s : State) (session : ℕ) (what : Result Command Refusal) (reply : Reply) (after : State) → IsSession session → IsOfGrammar what →
       IsSound s → ReadersHaveBookmarks s → HeldOnce (catalog s) s.entries → first_bad_catalog (bound s) (cells_of s) ≡ None → first_bad_catalog (bound after) (cells_of after) ≡ None →
@@ -78,7 +78,7 @@ pub record HasGoodRows (s : State) : Type 0 where
 
 -- A run over a good database begins so, each round keeps it, whatever its line, and so does the end of a run.
 pub record RowsStayGood : Type 0 where
-  pub begun : (settings : Settings) (found : Found) (files : ℕ → Bool) (sets : ℕ → Option SetStanding) →
+  pub begun : (settings : Settings) (found : Opened) (files : ℕ → Bool) (sets : ℕ → Option SetStanding) →
       IsSound (begun settings found files sets) → AreGood (bound (opened settings found files sets)) found.cells → HasGoodRows (begun settings found files sets)
   pub step : (s : State) (session : ℕ) (what : Result Command Refusal) (reply : Reply) (after : State) → IsSession session → IsOfGrammar what →
       IsSound s → HasLogInRange s → ReadersHaveBookmarks s → HeldOnce (catalog s) s.entries → HasGoodRows s → Step s session what reply after → HasGoodRows after

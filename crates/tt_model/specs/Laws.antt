@@ -6,8 +6,8 @@ use Rattle.tt_value.specs.declared.position.Position.{Position}
 use Rattle.tt_value.specs.declared.refusal.Refusal.{Refusal}
 use Rattle.tt_value.specs.declared.reply.Reply.{Reply}
 use Rattle.tt_parse.specs.declared.command.Command.{Command}
-use Rattle.tt_record.specs.Entries.{length_of}
-use Rattle.tt_record.specs.Places.{end_of}
+use Rattle.tt_record.specs.Entry.{length_of}
+use Rattle.tt_record.specs.Place.{end_of}
 use Rattle.tt_record.specs.declared.entry.Entry.{Entry}
 use Rattle.tt_record.specs.declared.entry.Entry.TheVariants.{Change, Commit, Abort, Mark}
 use Rattle.tt_set.specs.declared.settings.Settings.{Settings}
@@ -19,7 +19,7 @@ use Rattle.tt_model.specs.Forced.{forced_for}
 use Rattle.tt_model.specs.Holds.{first_entry, first_entries, least_of, low}
 use Rattle.tt_model.specs.Steady.{IsGrown, IsSteady, MayAbort, MayChange}
 use Rattle.tt_model.specs.Standing.{standing, is_ended, last_after, first_before}
-use Rattle.tt_model.specs.Found.{Found}
+use Rattle.tt_model.specs.Opened.{Opened}
 use Rattle.tt_model.specs.Sets.{SetStanding}
 use Rattle.tt_model.specs.State.{State, trail, placed, write_position, cells_of, view, live_in, next, with_entry, with_edits, reversals}
 use Rattle.tt_model.specs.Sound.{IsUserTable, IsSound, has_mark}
@@ -138,7 +138,7 @@ ReversedMayAbort = (base : Cells) (t : ℕ) (s : State) → IsGrown base s.entri
 -- state to a sound one, whatever the line, and in any memory. So does the end of a run,
 -- which leaves no transaction live where it was done to its end.
 pub record StatesStaySound : Type 0 where
-  pub begun : (settings : Settings) (found : Found) (files : ℕ → Bool) (sets : ℕ → Option SetStanding) →
+  pub begun : (settings : Settings) (found : Opened) (files : ℕ → Bool) (sets : ℕ → Option SetStanding) →
       ((q : ℕ) → is_full (found.cells q) ≡ true → q < 32 * (opened settings found files sets).pages) → ((q : ℕ) → IsUserTable (found.cells q)) →
       IsSound (begun settings found files sets)
   pub step : (s : State) (session : ℕ) (what : Result Command Refusal) (reply : Reply) (after : State) →

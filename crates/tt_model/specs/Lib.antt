@@ -2,11 +2,10 @@ pub mod Backups
 pub mod Checkpoint
 pub mod Committed
 pub mod Conditions
-pub mod Damages
+pub mod Damage
 pub mod Due
 pub mod Entries
 pub mod Forced
-pub mod Found
 pub mod GoodCatalog
 pub mod GoodRows
 pub mod Holders
@@ -15,6 +14,7 @@ pub mod Laws
 pub mod Live
 pub mod Meaning
 pub mod Meant
+pub mod Opened
 pub mod Opening
 pub mod Prefix
 pub mod Ranges

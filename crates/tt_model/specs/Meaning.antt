@@ -13,7 +13,7 @@ use Rattle.tt_value.specs.declared.value.ColumnType.{ColumnType}
 use Rattle.tt_value.specs.declared.value.ColumnType.TheVariants.{BigInt, Varchar, Number as NumberOf}
 use Rattle.tt_value.specs.declared.refusal.Refusal.{Refusal}
 use Rattle.tt_value.specs.declared.refusal.Refusal.TheVariants.{NoTable, NoColumn, WrongType, TooWide, DuplicateKey, NullRefused, KeyUpdate, NameThere, LockConflict, PermFull, OutOfRange}
-use Rattle.tt_value.specs.declared.TheConstants.{ROW_MAX, UNITS_END}
+use Rattle.tt_value.specs.Limits.{row_most, units_end}
 use Rattle.tt_parse.specs.declared.command.ColumnText.{ColumnText}
 use Rattle.tt_parse.specs.declared.command.SetItem.{SetItem}
 use Rattle.tt_parse.specs.declared.command.SetSource.{SetSource}
@@ -24,7 +24,7 @@ use Rattle.tt_parse.specs.declared.command.Aggregate.{Aggregate}
 use Rattle.tt_parse.specs.declared.command.Aggregate.TheVariants.{Count, Sum}
 use Rattle.tt_parse.specs.declared.command.OrderItem.{OrderItem}
 use Rattle.tt_parse.specs.declared.cond.Cond.{Cond}
-use Rattle.tt_value.specs.Orders.{value_cmp, row_cmp}
+use Rattle.tt_value.specs.Order.{value_cmp, row_cmp}
 use Rattle.tt_value.specs.Stored.{row_bytes}
 use Rattle.tt_model.specs.Values.{is_null, same_values}
 use Rattle.tt_model.specs.Trail.{Trail}
@@ -81,7 +81,7 @@ stored_value kind v = number_value kind (units_in kind v)
 
 -- A number result leaves i64, or a NUMBER value reaches 10^18 in size.
 abbrev pub is_out_of_range : ColumnType → ℤ → Bool
-is_out_of_range (NumberOf s) n = nat_le UNITS_END (unsigned_abs n)
+is_out_of_range (NumberOf s) n = nat_le units_end (unsigned_abs n)
 is_out_of_range _ n = not (int_le (pos 0 -ℤ pos (2 ^ 63)) n && int_lt n (pos (2 ^ 63)))
 
 abbrev pub is_value_out : ColumnType → Value → Bool
@@ -110,7 +110,7 @@ abbrev pub stored_length : Row → ℕ
 stored_length row = length (row_bytes row)
 
 abbrev pub row_refusal : Row → Option Refusal
-row_refusal row = refused_if (nat_lt ROW_MAX (stored_length row)) (TooWide (stored_length row))
+row_refusal row = refused_if (nat_lt row_most (stored_length row)) (TooWide (stored_length row))
 
 -- Keys and unique values.
 abbrev pub key_name : Table → Row → Held

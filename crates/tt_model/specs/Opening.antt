@@ -6,7 +6,7 @@ use Rattle.tt_record.specs.declared.entry.Entry.{Entry}
 use Rattle.tt_model.specs.Trail.{Trail, Placed, position_eq, position_lt, since}
 use Rattle.tt_model.specs.Committed.{Cells, no_cells}
 use Rattle.tt_model.specs.Live.{after_number, next_number, pages_named}
-use Rattle.tt_model.specs.Found.{Head, Found, newest_of, number_of, only_first, first_head}
+use Rattle.tt_model.specs.Opened.{Head, Opened, newest_of, number_of, only_first, first_head}
 use Rattle.tt_model.specs.Standing.{laid, log_of, standing}
 use Rattle.tt_model.specs.Prefix.{found_hold}
 
@@ -27,13 +27,13 @@ is_in_file p None = false
 is_in_file p (Some es) = list_any (λ (e : Placed). position_eq e.at p) ((laid p.file es ([], 0)).0) || nat_eq p.offset ((laid p.file es ([], 0)).1)
 
 -- What an image stands for with the entries from its scan position on, which alone are in it so far.
-abbrev pub found_behind : (ℕ → Option Head) → Head → Cells → Trail × Position → Found
+abbrev pub found_behind : (ℕ → Option Head) → Head → Cells → Trail × Position → Opened
 found_behind heads head image read =
     let entries = since head.scan (read.0) in
     record { cells = standing image entries; entries = entries; end = read.1; next = next_number head.next entries; heads = heads }
 
 -- The least position that its headers, sets and bookmarks hold.
-abbrev pub held_by : Head → Found → Position
+abbrev pub held_by : Head → Opened → Position
 held_by head f = found_hold (32 * pages_named head.pages f.entries) f
 
 -- Before the scan position an entry has a number that isn't below the image's next one.
@@ -41,18 +41,18 @@ abbrev pub is_ahead : Head → Placed → Bool
 is_ahead head e = position_lt e.at head.scan && nat_lt head.next (after_number e.entry)
 
 -- The log is read again, from the file of the least hold on. No entry is ahead, and the log reaches the file of the scan position.
-abbrev pub with_entries : Head → Found → Option (Trail × Position) → Option Found
+abbrev pub with_entries : Head → Opened → Option (Trail × Position) → Option Opened
 with_entries head f None = None
 with_entries head f (Some read) =
     if list_any (is_ahead head) (read.0) || nat_lt (read.1).file head.scan.file then None else Some (record f { entries = read.0; end = read.1 })
 
-abbrev pub found_from : FilesRead → Head → Option (Trail × Position) → Option Found
+abbrev pub found_from : FilesRead → Head → Option (Trail × Position) → Option Opened
 found_from files head None = None
 found_from files head (Some read) =
     let f = found_behind files.heads head (files.images (newest_of files.heads)) read in
     with_entries head f (log_of files.entries_in (held_by head f).file)
 
-abbrev pub opened_by : FilesRead → Option Head → Option Found
+abbrev pub opened_by : FilesRead → Option Head → Option Opened
 opened_by files None = None
 opened_by files (Some head) =
     if have_one_number files.heads || not (is_in_file head.scan (files.entries_in head.scan.file)) then None
@@ -61,7 +61,7 @@ opened_by files (Some head) =
 -- What opening finds, or none: where no image is whole, or both have one number; where the log from the scan position on is damaged, or that is
 -- no place in its file; where the log from the file of the least hold on is damaged, or has an entry ahead, or doesn't reach the scan
 -- position's file.
-unfoldable pub opening : FilesRead → Option Found
+unfoldable pub opening : FilesRead → Option Opened
 opening files = opened_by files (files.heads (newest_of files.heads))
 
 -- A database that was just created has an empty image, from which on its whole log is read.

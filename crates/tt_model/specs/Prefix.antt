@@ -1,16 +1,16 @@
 -- Which prefix of a trail a Found stands for, and when what opening finds is settled.
 use Rattle.std.specs.Prelude.{◌≡◌, ◌⊎◌, ◌≤◌, ℕ, ◌+◌, [], length, Option, Some}
 use Rattle.tt_value.specs.declared.position.Position.{Position}
-use Rattle.tt_record.specs.Places.{position}
+use Rattle.tt_record.specs.Place.{position}
 use Rattle.tt_model.specs.Trail.{Trail, trail_end, oldest, since}
 use Rattle.tt_model.specs.Committed.{committed}
 use Rattle.tt_model.specs.Live.{next_number}
 use Rattle.tt_model.specs.Holds.{holds_of, least_hold_of}
-use Rattle.tt_model.specs.Found.{Found, scan_of}
+use Rattle.tt_model.specs.Opened.{Opened, scan_of}
 use Rattle.tt_model.specs.State.{State, trail, new_among, bound}
 
 -- The least position that a Found's own rows and headers hold.
-abbrev pub found_hold : ℕ → Found → Position
+abbrev pub found_hold : ℕ → Opened → Position
 found_hold bound f = least_hold_of f.end (holds_of (λ file. scan_of (f.heads file)) bound f.cells [])
 
 -- The entries from the file of a position on.
@@ -18,7 +18,7 @@ abbrev pub from_file : Position → Trail → Trail
 from_file p entries = since (position p.file 0) entries
 
 -- A Found stands for the first n entries of a state's trail.
-pub record StandsForFirst (n : ℕ) (s : State) (f : Found) : Type 0 where
+pub record StandsForFirst (n : ℕ) (s : State) (f : Opened) : Type 0 where
   pub least : length s.found.entries ≤ n
   pub most : n ≤ length (trail s)
   pub cells : (place : ℕ) → f.cells place ≡ committed s.found.cells (new_among n s) place
@@ -27,7 +27,7 @@ pub record StandsForFirst (n : ℕ) (s : State) (f : Found) : Type 0 where
   pub next : f.next ≡ next_number s.found.next (oldest n (trail s))
 
 -- It stands for a prefix that has at least the forced entries.
-abbrev pub StandsForPrefix : ℕ → State → Found → Type 0
+abbrev pub StandsForPrefix : ℕ → State → Opened → Type 0
 StandsForPrefix forced s f = (n : ℕ) × (forced ≤ n) × StandsForFirst n s f
 
 -- What is read of the files is one and the same in every map that a crash may leave, and in the present one. So it may be that nothing is

@@ -9,7 +9,7 @@ use Rattle.tt_record.specs.declared.entry.Entry.{Entry}
 use Rattle.tt_record.specs.declared.entry.Entry.TheVariants.{Change, Mark}
 use Rattle.tt_model.specs.Trail.{Trail, since}
 use Rattle.tt_model.specs.Live.{pages_named}
-use Rattle.tt_model.specs.Found.{Found, Head, newest_of, first_head}
+use Rattle.tt_model.specs.Opened.{Opened, Head, newest_of, first_head}
 use Rattle.tt_model.specs.Sets.{SetStanding}
 use Rattle.tt_model.specs.State.{State, with_entry, all_forced, live_in, lengths_fit, write_position}
 use Rattle.tt_model.specs.Prefix.{StandsForPrefix}
@@ -32,7 +32,7 @@ stale_at_start newest count pages entries file page =
     else nat_lt page pages
 
 -- The state of an engine that has just opened this, before its Mark.
-abbrev pub opened : Settings → Found → (ℕ → Bool) → (ℕ → Option SetStanding) → State
+abbrev pub opened : Settings → Opened → (ℕ → Bool) → (ℕ → Option SetStanding) → State
 opened settings found files sets =
     let newest = newest_of found.heads in
     let head = newest_head found.heads in
@@ -57,7 +57,7 @@ opened settings found files sets =
     }
 
 -- A run begins with one Mark.
-unfoldable pub begun : Settings → Found → (ℕ → Bool) → (ℕ → Option SetStanding) → State
+unfoldable pub begun : Settings → Opened → (ℕ → Bool) → (ℕ → Option SetStanding) → State
 begun settings found files sets = with_entry Mark (opened settings found files sets)
 
 -- A line that isn't skipped.
@@ -73,8 +73,8 @@ Run s [] (r ∷ rs) after = ⊥
 Run s (l ∷ ls) [] after = ⊥
 
 -- The end of a run rolls the live transactions back in ascending number. It stops where one has no place.
-abbrev pub has_place : ℕ → State → Bool
-has_place t s = lengths_fit s.settings.log_file_size (write_position s) (rollback_lengths t s)
+abbrev pub has_position : ℕ → State → Bool
+has_position t s = lengths_fit s.settings.log_file_size (write_position s) (rollback_lengths t s)
 
 -- No session has the transaction any longer.
 abbrev pub without_own : ℕ → (ℕ → Option ℕ) → ℕ → Option ℕ
@@ -85,7 +85,7 @@ ended_one t s = record (rolled_back t s) { own = without_own t s.own }
 
 abbrev pub roll_all : List ℕ → State → Bool × State
 roll_all [] s = (true, all_forced s)
-roll_all (t ∷ ts) s = elim (has_place t s) [ true ↦ roll_all ts (ended_one t s) | false ↦ (false, s) ]
+roll_all (t ∷ ts) s = elim (has_position t s) [ true ↦ roll_all ts (ended_one t s) | false ↦ (false, s) ]
 
 -- A checkpoint under way is dropped.
 unfoldable pub ended : State → Bool × State
@@ -115,7 +115,7 @@ WasToLeave end rest given s last least =
 -- What may be found after a run, whichever way it ended. From its begin the answered lines lead to a state; with the lines that were left it was
 -- to leave a last state, and the stopped one may have been answered; what is found stands for the first entries of that state's trail, at least
 -- as many as were forced.
-pub record FoundAfter (end : State → State) (begin : State) (lines : List Line) (replies : List Reply) (rest : List Line) (given : Option Reply) (f : Found) : Type 0 where
+pub record FoundAfter (end : State → State) (begin : State) (lines : List Line) (replies : List Reply) (rest : List Line) (given : Option Reply) (f : Opened) : Type 0 where
   pub state : State
   pub last : State
   pub least : ℕ

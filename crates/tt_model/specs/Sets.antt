@@ -7,7 +7,7 @@ use Rattle.tt_model.specs.Trail.{Trail, since}
 use Rattle.tt_model.specs.Committed.{Cells, is_full}
 use Rattle.tt_model.specs.Live.{numbers_below, pages_named}
 use Rattle.tt_model.specs.Standing.{standing}
-use Rattle.tt_model.specs.Found.{Head, Found, fresh}
+use Rattle.tt_model.specs.Opened.{Head, Opened, fresh}
 
 -- A batch of a set's log: the entries from one position to another.
 pub record Batch : Type 0 where
@@ -23,8 +23,8 @@ pub record BackupSet : Type 0 where
 
 -- What a set whose image is whole stands for; a bad header or a damaged log makes it unsound.
 pub data SetStanding : Type 0 where
-  Sound : BackupSet → SetStanding
-  Unsound : SetStanding
+  Readable : BackupSet → SetStanding
+  Unreadable : SetStanding
 
 -- A set ends where its last batch does.
 abbrev pub last_to : Position → List Batch → Position
@@ -75,5 +75,5 @@ abbrev pub set_pages : BackupSet → ℕ
 set_pages set = pages_named set.head.pages (all_entries set.batches)
 
 -- The database that restoring a set leaves: its rows, each at its place, and no log.
-abbrev pub restored : BackupSet → ℕ → Found
+abbrev pub restored : BackupSet → ℕ → Opened
 restored set database = fresh (restored_cells set) (pages_holding (restored_cells set) (numbers_below (32 * set_pages set))) database

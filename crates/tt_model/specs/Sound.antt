@@ -11,7 +11,7 @@ use Rattle.tt_value.specs.declared.value.Row.{Row}
 use Rattle.tt_value.specs.declared.value.Cell.{Cell}
 use Rattle.tt_value.specs.declared.value.Cell.TheVariants.{Full}
 use Rattle.tt_model.specs.Live.{is_live, in_use}
-use Rattle.tt_model.specs.Found.{Found}
+use Rattle.tt_model.specs.Opened.{Opened}
 use Rattle.tt_model.specs.Steady.{IsGrown, MayChange}
 use Rattle.tt_model.specs.State.{State, next, place_for, with_edit}
 use Rattle.tt_model.specs.declared.definition.CellEdit.{CellEdit}
@@ -25,7 +25,7 @@ has_mark entries = list_any (λ e. is_mark e.entry) entries
 
 -- The new entries might come one after another, with the Mark of the opening among them, and their positions ascend. The forced
 -- part has what opening found, and no more than there is. Every place in use lies in the pages.
-pub record IsSoundLog (found : Found) (entries : Trail) (forced pages : ℕ) : Type 0 where
+pub record IsSoundLog (found : Opened) (entries : Trail) (forced pages : ℕ) : Type 0 where
   pub grown : IsGrown found.cells entries
   pub marked : has_mark entries ≡ true
   pub ordered : IsOrdered found.end entries

@@ -4,12 +4,13 @@ use Rattle.std.specs.Option.{option_or}
 use Rattle.std.specs.List.{list_any}
 use Rattle.tt_value.specs.declared.value.Cell.{Cell}
 use Rattle.tt_value.specs.declared.position.Position.{Position}
-use Rattle.tt_record.specs.Entries.{length_of}
-use Rattle.tt_record.specs.Places.{position}
+use Rattle.tt_record.specs.Entry.{length_of}
+use Rattle.tt_record.specs.Place.{position}
 use Rattle.tt_record.specs.declared.entry.Entry.{Entry}
 use Rattle.tt_record.specs.declared.entry.Entry.TheVariants.{Change, Commit, Abort, Switch}
 use Rattle.tt_model.specs.Trail.{Trail}
 use Rattle.tt_model.specs.Committed.{Cells}
+use Rattle.tt_record.specs.Limits.{log_files_end}
 
 -- A file's entries laid behind a trail, from an offset of that file on; Switch counts for nothing.
 abbrev pub laid_one : ℕ → Entry → Trail × ℕ → Trail × ℕ
@@ -41,7 +42,7 @@ walked (suc more) entries_in file before =
     ]
 
 unfoldable pub log_of : (ℕ → Option (List Entry)) → ℕ → Option (Trail × Position)
-log_of entries_in file = walked 1000000 entries_in file []
+log_of entries_in file = walked log_files_end entries_in file []
 
 -- A transaction is ended among entries where they have a Commit or an Abort of it.
 abbrev pub is_end_of : ℕ → Entry → Bool

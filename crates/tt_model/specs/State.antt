@@ -5,8 +5,8 @@ use Rattle.tt_value.specs.declared.reply.Hold.{Hold}
 use Rattle.tt_record.specs.declared.entry.Entry.{Entry}
 use Rattle.tt_record.specs.declared.entry.Entry.TheVariants.{Change}
 use Rattle.tt_set.specs.declared.settings.Settings.{Settings}
-use Rattle.tt_record.specs.Entries.{length_of}
-use Rattle.tt_record.specs.Places.{next_place, place_of, end_of}
+use Rattle.tt_record.specs.Entry.{length_of}
+use Rattle.tt_record.specs.Place.{next_position, position_of, end_of}
 use Rattle.tt_model.specs.Trail.{Trail, Placed, trail_end, oldest}
 use Rattle.tt_model.specs.Committed.{Cells, committed}
 use Rattle.tt_model.specs.Live.{live, view_of, in_use, least_free, taken_count, next_number, pages_after}
@@ -14,11 +14,11 @@ use Rattle.tt_model.specs.Forced.{forced_for}
 use Rattle.tt_model.specs.Holds.{holds_of, least_hold_of, low}
 use Rattle.tt_model.specs.Tables.{catalog_of, Catalog}
 use Rattle.tt_model.specs.declared.definition.CellEdit.{CellEdit}
-use Rattle.tt_model.specs.Found.{Head, Found, scan_of, number_of}
+use Rattle.tt_model.specs.Opened.{Head, Opened, scan_of, number_of}
 use Rattle.tt_model.specs.Sets.{SetStanding}
 
 -- A checkpoint under way: the file that it writes, what its header will have, and the pages left, in ascending order.
-pub record Begun : Type 0 where
+pub record Underway : Type 0 where
   pub file : ℕ
   pub number : ℕ
   pub scan : Position
@@ -39,7 +39,7 @@ pub record Reader : Type 0 where
 -- The found part, the new entries, and all that a run keeps beside them.
 pub record State : Type 0 where
   pub settings : Settings
-  pub found : Found
+  pub found : Opened
   -- the new entries, the newest first
   pub entries : Trail
   -- how many entries of the trail are forced
@@ -53,7 +53,7 @@ pub record State : Type 0 where
   pub newest : ℕ
   pub stale : ℕ → ℕ → Bool
   pub pages : ℕ
-  pub underway : Option Begun
+  pub underway : Option Underway
   -- the log files that are there, the backup sets, the number of the database
   pub files : ℕ → Bool
   pub sets : ℕ → Option SetStanding
@@ -132,7 +132,7 @@ stale_after _ stale file page = stale file page
 
 -- An entry with the position that it gets behind the last one.
 abbrev pub placed : Entry → State → Placed
-placed e s = record { at = next_place (write_position s) (length_of e) s.settings.log_file_size; entry = e }
+placed e s = record { at = next_position (write_position s) (length_of e) s.settings.log_file_size; entry = e }
 
 -- One more entry.
 unfoldable pub with_entry : Entry → State → State
@@ -173,4 +173,4 @@ reversals t (e ∷ older) = reversed t e.entry (reversals t older)
 abbrev pub lengths_fit : ℕ → Position → List ℕ → Bool
 lengths_fit size end [] = true
 lengths_fit size end (n ∷ ns) =
-    elim (place_of end n size) [ None ↦ false | Some at ↦ lengths_fit size (end_of at n) ns ]
+    elim (position_of end n size) [ None ↦ false | Some at ↦ lengths_fit size (end_of at n) ns ]

@@ -10,18 +10,18 @@ use Rattle.tt_parse.specs.declared.command.Command.TheVariants.{CreateTable, Dro
 use Rattle.tt_parse.specs.declared.command.BackupKind.{BackupKind}
 use Rattle.tt_parse.specs.declared.command.BackupKind.TheVariants.{Full, FullEnable, Incremental, IncrOrFull, Stop}
 use Rattle.tt_record.specs.declared.entry.Entry.TheVariants.{Change, Commit, Abort}
-use Rattle.tt_record.specs.Entries.{length_of}
+use Rattle.tt_record.specs.Entry.{length_of}
 use Rattle.tt_model.specs.Trail.{oldest}
 use Rattle.tt_model.specs.Tables.{PlacedRow, number_at, position_at, subscriptions_of}
 use Rattle.tt_model.specs.Due.{DueChange, due, read_to}
 use Rattle.tt_model.specs.Meaning.{Meant, Refuses, Gives, Makes, refused_if, meant_by_insert, meant_by_update, meant_by_delete, meant_by_select}
 use Rattle.tt_model.specs.System.{reader_on, bookmark, deletes, meant_by_create_table, meant_by_drop_table, meant_by_create_index, meant_by_drop_index, meant_by_create_bookmark, meant_by_delete_bookmark, meant_by_subscribe, meant_by_unsubscribe, meant_by_acknowledge}
 use Rattle.tt_model.specs.Backups.{kind_done, backup_refusal, row_of_set, set_edit, full_now, extended_now, with_set}
-use Rattle.tt_model.specs.Sets.{Sound}
-use Rattle.tt_model.specs.State.{Begun}
+use Rattle.tt_model.specs.Sets.{Readable}
+use Rattle.tt_model.specs.State.{Underway, State, Reader, ReadPlace, newest_number, at_one, trail, cells_of, bound, catalog, next, live_in, holds, least_hold, write_position, force_position, with_entry, with_edits, all_forced, reversals, lengths_fit}
 use Rattle.tt_model.specs.Checkpoint.{begin_checkpoint, with_copies, with_all_copies, with_completion, begun_in}
-use Rattle.tt_model.specs.State.{State, Reader, ReadPlace, newest_number, at_one, trail, cells_of, bound, catalog, next, live_in, holds, least_hold, write_position, force_position, with_entry, with_edits, all_forced, reversals, lengths_fit}
 use Rattle.tt_model.specs.declared.definition.CellEdit.{CellEdit}
+use Rattle.tt_record.specs.Limits.{transactions_end}
 
 -- A line is answered, and leaves a state.
 abbrev pub Answered : Type 0
@@ -47,11 +47,11 @@ abbrev pub end_length : ℕ
 end_length = length_of (Commit 1)
 
 -- An entry of a line would stand in file 1,000,000, or a new transaction's number would be 2^48.
-abbrev pub no_place : List ℕ → State → Option Refusal
-no_place lengths s = refused_if (not (lengths_fit s.settings.log_file_size (write_position s) lengths)) LogOut
+abbrev pub no_position : List ℕ → State → Option Refusal
+no_position lengths s = refused_if (not (lengths_fit s.settings.log_file_size (write_position s) lengths)) LogOut
 
 abbrev pub no_number : State → Option Refusal
-no_number s = refused_if (nat_le (2 ^ 48) (next s)) LogOut
+no_number s = refused_if (nat_le transactions_end (next s)) LogOut
 
 abbrev pub no_number_for : Option ℕ → State → Option Refusal
 no_number_for None s = no_number s
@@ -69,7 +69,7 @@ made_in session t edits s = record (with_edits t edits s) { own = at_one session
 abbrev pub made : ℕ → List CellEdit → State → Answered
 made session [] s = (Changed 0, s)
 made session (e ∷ es) s =
-    unless_refused (option_or (no_number_for (s.own session) s) (no_place (map edit_length (e ∷ es)) s))
+    unless_refused (option_or (no_number_for (s.own session) s) (no_position (map edit_length (e ∷ es)) s))
     (Changed (suc (length es)), made_in session (number_for (s.own session) s) (e ∷ es) s) s
 
 abbrev pub statement : ℕ → Meant → State → Answered
@@ -79,16 +79,16 @@ statement session (Makes edits) s = made session edits s
 
 -- commit and rollback
 
-abbrev pub settled : ℕ → State → State
-settled session s = record s { own = at_one session None s.own; wish = at_one session false s.wish }
+abbrev pub session_ended : ℕ → State → State
+session_ended session s = record s { own = at_one session None s.own; wish = at_one session false s.wish }
 
 abbrev pub is_durable : ℕ → State → Bool
 is_durable session s = s.settings.durable_commits || s.wish session
 
 abbrev pub commit_of : ℕ → Option ℕ → State → Answered
-commit_of session None s = (Done, settled session (forced_where (is_durable session s) s))
+commit_of session None s = (Done, session_ended session (forced_where (is_durable session s) s))
 commit_of session (Some t) s =
-    unless_refused (no_place (end_length ∷ []) s) (Done, settled session (forced_where (is_durable session s) (with_entry (Commit t) s))) s
+    unless_refused (no_position (end_length ∷ []) s) (Done, session_ended session (forced_where (is_durable session s) (with_entry (Commit t) s))) s
 
 abbrev pub rolled_back : ℕ → State → State
 rolled_back t s = with_entry (Abort t) (with_edits t (reversals t s.entries) s)
@@ -97,43 +97,43 @@ abbrev pub rollback_lengths : ℕ → State → List ℕ
 rollback_lengths t s = map edit_length (reversals t s.entries) ++ end_length ∷ []
 
 abbrev pub rollback_of : ℕ → Option ℕ → State → Answered
-rollback_of session None s = (Done, settled session s)
-rollback_of session (Some t) s = unless_refused (no_place (rollback_lengths t s) s) (Done, settled session (rolled_back t s)) s
+rollback_of session None s = (Done, session_ended session s)
+rollback_of session (Some t) s = unless_refused (no_position (rollback_lengths t s) s) (Done, session_ended session (rolled_back t s)) s
 
 -- a transaction of its own
 
 abbrev pub system_done : List CellEdit → State → State
 system_done edits s = forced_where s.settings.durable_commits (with_entry (Commit (next s)) (with_edits (next s) edits s))
 
-abbrev pub no_system_place : List CellEdit → State → Option Refusal
-no_system_place edits s = option_or (no_number s) (no_place (map edit_length edits ++ end_length ∷ []) s)
+abbrev pub no_system_position : List CellEdit → State → Option Refusal
+no_system_position edits s = option_or (no_number s) (no_position (map edit_length edits ++ end_length ∷ []) s)
 
 abbrev pub system : Meant → State → Answered
 system (Refuses r) s = refused r s
 system (Gives rows) s = (Done, s)
-system (Makes edits) s = unless_refused (no_system_place edits s) (Done, system_done edits s) s
+system (Makes edits) s = unless_refused (no_system_position edits s) (Done, system_done edits s) s
 
 -- readers
 
 abbrev pub with_reader : ℕ → Option Reader → State → State
 with_reader session r s = record s { reader = at_one session r s.reader }
 
-abbrev pub kept_place : PlacedRow → ReadPlace
-kept_place r = record { at = position_at 1 r; skip = number_at 3 r; hold = position_at 4 r }
+abbrev pub kept_read : PlacedRow → ReadPlace
+kept_read r = record { at = position_at 1 r; skip = number_at 3 r; hold = position_at 4 r }
 
 abbrev pub open_at : ℕ → List ℕ → Option PlacedRow → State → Answered
 open_at session name None s = refused NoBookmark s
 open_at session name (Some r) s =
-    unless_refused (option_map BookmarkBusy (reader_on name s)) (Done, with_reader session (Some (record { bookmark = name; place = kept_place r })) s) s
+    unless_refused (option_map BookmarkBusy (reader_on name s)) (Done, with_reader session (Some (record { bookmark = name; place = kept_read r })) s) s
 
-abbrev pub opened : ℕ → List ℕ → State → Answered
-opened session name s = if is_some (s.reader session) then refused (BookmarkBusy session) s else open_at session name (bookmark name s) s
+abbrev pub reader_opened : ℕ → List ℕ → State → Answered
+reader_opened session name s = if is_some (s.reader session) then refused (BookmarkBusy session) s else open_at session name (bookmark name s) s
 
 abbrev pub all_due : Reader → State → List DueChange
 all_due r s = due r.place (subscriptions_of r.bookmark (bound s) (cells_of s)) (catalog s) (oldest s.forced (trail s))
 
-abbrev pub next_place_of : Reader → ℕ → State → ReadPlace
-next_place_of r n s = read_to r.place n (force_position s) (trail s) (take n (all_due r s))
+abbrev pub next_read_of : Reader → ℕ → State → ReadPlace
+next_read_of r n s = read_to r.place n (force_position s) (trail s) (take n (all_due r s))
 
 -- The count of the Changes that were given of a place's Commit has four bytes. A read whose next place would have more finds no
 -- memory for it.
@@ -142,11 +142,11 @@ no_skip place = refused_if (nat_lt 4294967295 place.skip) NoMemory
 
 abbrev pub given_to : ℕ → Reader → ℕ → State → Answered
 given_to session r n s =
-    (Updates (map (λ d. d.given) (take n (all_due r s))), with_reader session (Some (record r { place = next_place_of r n s })) s)
+    (Updates (map (λ d. d.given) (take n (all_due r s))), with_reader session (Some (record r { place = next_read_of r n s })) s)
 
 abbrev pub given : ℕ → Option Reader → ℕ → State → Answered
 given session None n s = refused NoReader s
-given session (Some r) n s = unless_refused (no_skip (next_place_of r n s)) (given_to session r n s) s
+given session (Some r) n s = unless_refused (no_skip (next_read_of r n s)) (given_to session r n s) s
 
 abbrev pub closed : ℕ → Option Reader → State → Answered
 closed session None s = refused NoReader s
@@ -155,10 +155,10 @@ closed session (Some r) s = (Done, with_reader session None s)
 -- backups
 
 abbrev pub backed_up : ℕ → BackupKind → State → Answered
-backed_up set Full s = (Backup set true (write_position s), with_set set (Some (Sound (full_now s))) (all_forced s))
+backed_up set Full s = (Backup set true (write_position s), with_set set (Some (Readable (full_now s))) (all_forced s))
 backed_up set FullEnable s = (
   Backup set true (write_position s),
-  system_done (set_edit (row_of_set set s) set (write_position s) ∷ []) (with_set set (Some (Sound (full_now s))) (all_forced s)),
+  system_done (set_edit (row_of_set set s) set (write_position s) ∷ []) (with_set set (Some (Readable (full_now s))) (all_forced s)),
 )
 backed_up set Incremental s = (
   Backup set false (write_position s),
@@ -167,13 +167,13 @@ backed_up set Incremental s = (
 backed_up set Stop s = (Done, elim (row_of_set set s) [ None ↦ s | Some r ↦ system_done (deletes 6 r ∷ []) s ])
 backed_up set IncrOrFull s = (Done, s)
 
-abbrev pub backup_place : ℕ → BackupKind → State → Option Refusal
-backup_place set Full s = None
-backup_place set Stop s = elim (row_of_set set s) [ None ↦ None | Some r ↦ no_system_place (deletes 6 r ∷ []) s ]
-backup_place set kind s = no_system_place (set_edit (row_of_set set s) set (write_position s) ∷ []) s
+abbrev pub backup_position : ℕ → BackupKind → State → Option Refusal
+backup_position set Full s = None
+backup_position set Stop s = elim (row_of_set set s) [ None ↦ None | Some r ↦ no_system_position (deletes 6 r ∷ []) s ]
+backup_position set kind s = no_system_position (set_edit (row_of_set set s) set (write_position s) ∷ []) s
 
 abbrev pub backup_kind : ℕ → ℕ → BackupKind → State → Answered
-backup_kind session set kind s = unless_refused (option_or (backup_refusal session s set kind) (backup_place set kind s)) (backed_up set kind s) s
+backup_kind session set kind s = unless_refused (option_or (backup_refusal session s set kind) (backup_position set kind s)) (backed_up set kind s) s
 
 -- checkpoints
 
@@ -181,7 +181,7 @@ abbrev pub checkpoint_open : State → Option Refusal
 checkpoint_open s = option_map (λ b. CkptOpen b.number) s.underway
 
 abbrev pub no_checkpoint_number : State → Option Refusal
-no_checkpoint_number s = refused_if (nat_le (2 ^ 48) (newest_number s + 1)) LogOut
+no_checkpoint_number s = refused_if (nat_le transactions_end (newest_number s + 1)) LogOut
 
 abbrev pub least_open : List ℕ → Option Refusal
 least_open [] = None
@@ -219,7 +219,7 @@ line session (XlaDelete name) s = system (meant_by_delete_bookmark session s nam
 line session (XlaSubscribe table name) s = system (meant_by_subscribe session s table name) s
 line session (XlaUnsubscribe table name) s = system (meant_by_unsubscribe session s table name) s
 line session XlaAcknowledge s = system (meant_by_acknowledge session s) s
-line session (XlaOpen name) s = opened session name s
+line session (XlaOpen name) s = reader_opened session name s
 line session (XlaNext n) s = given session (s.reader session) n s
 line session XlaClose s = closed session (s.reader session) s
 line session (BackupLine set kind) s = backup_kind session set (kind_done kind set s) s
@@ -266,7 +266,7 @@ Answers session what s reply after = ByTable session what s reply after ⊎ Want
 
 -- One line that isn't skipped: the copies of a checkpoint under way, the line, the completion where it is due. A completion
 -- is due of a checkpoint that was under way before the line.
-abbrev pub completion_after : Option Begun → State → State
+abbrev pub completion_after : Option Underway → State → State
 completion_after None s = s
 completion_after (Some b) s = with_completion s
 

@@ -10,18 +10,18 @@ use Rattle.tt_value.specs.declared.reply.Reply.TheVariants.{Refused}
 use Rattle.tt_parse.specs.declared.command.Command.{Command}
 use Rattle.tt_record.specs.declared.entry.Entry.{Entry}
 use Rattle.tt_record.specs.declared.entry.Entry.TheVariants.{Change, Commit, Abort, Mark, Switch}
-use Rattle.tt_record.specs.Places.{position}
+use Rattle.tt_record.specs.Place.{position}
 use Rattle.tt_set.specs.declared.settings.Settings.{Settings}
 use Rattle.tt_model.specs.Trail.{Placed, Trail, position_le, trail_end}
 use Rattle.tt_model.specs.Committed.{Cells, committed, is_full}
 use Rattle.tt_model.specs.Live.{is_live, touched}
 use Rattle.tt_model.specs.Steady.{IsGrown}
 use Rattle.tt_model.specs.Checkpoint.{with_copies}
-use Rattle.tt_model.specs.Found.{Found}
+use Rattle.tt_model.specs.Opened.{Opened}
 use Rattle.tt_model.specs.Sets.{SetStanding}
 use Rattle.tt_model.specs.State.{State, all_forced, free_place, lengths_fit, used_count, write_position}
 use Rattle.tt_model.specs.Tables.{bookmark_row, catalog_of, row_in, rows_of, set_row}
-use Rattle.tt_model.specs.Damages.{first_bad_catalog, first_bad_row}
+use Rattle.tt_model.specs.Damage.{first_bad_catalog, first_bad_row}
 use Rattle.tt_model.specs.Sound.{IsSound}
 use Rattle.tt_model.specs.Step.{Step, completion_after, forces_first, is_refused, line}
 use Rattle.tt_model.specs.Run.{Line, Run, begun, ended, opened}
@@ -30,7 +30,7 @@ use Rattle.tt_model.specs.Works.{Work, work_of_end, works_of}
 use Rattle.tt_model.specs.Ranges.{HasRanges}
 use Rattle.tt_model.specs.GoodRows.{HasGoodRows}
 use Rattle.tt_model.specs.Entries.{HasLogInRange, HasStorableRows, HoldsStorable, IsOfGrammar, IsPlain}
-use Rattle.tt_record.specs.Entries.{length_of}
+use Rattle.tt_record.specs.Entry.{length_of}
 
 -- ---- where entries stand
 
@@ -49,7 +49,7 @@ NewLieEndToEnd s = LieEndToEnd s.found.end s.entries
 -- The entries of a run lie end to end: those that it begins with, and with those of each round, of further rounds and of its end.
 pub record EntriesLieEndToEnd : Type 0 where
   pub each : (s : State) (newer older : Trail) (e : Placed) → NewLieEndToEnd s → s.entries ≡ newer ++ e ∷ older → StandsBehind (trail_end s.found.end older) e.at
-  pub begun : (settings : Settings) (found : Found) (files : ℕ → Bool) (sets : ℕ → Option SetStanding) → NewLieEndToEnd (begun settings found files sets)
+  pub begun : (settings : Settings) (found : Opened) (files : ℕ → Bool) (sets : ℕ → Option SetStanding) → NewLieEndToEnd (begun settings found files sets)
   pub step : (s : State) (session : ℕ) (what : Result Command Refusal) (reply : Reply) (after : State) → NewLieEndToEnd s → Step s session what reply after → NewLieEndToEnd after
   pub run : (lines : List Line) (replies : List Reply) (s after : State) → NewLieEndToEnd s → Run s lines replies after → NewLieEndToEnd after
   pub end : (s : State) → NewLieEndToEnd s → NewLieEndToEnd ((ended s).1)
@@ -97,7 +97,7 @@ EachOfWorks P works = Each (λ (w : Work). Each P w.entries) works
 pub record WorksAreNumbered : Type 0 where
   pub works : (session : ℕ) (command : Command) (s : State) → IsSound s → NewAreNumbered s → EachOfWorks (IsNumberedFrom s.found.next) (works_of session command s)
   pub end_works : (s : State) → IsSound s → NewAreNumbered s → Each (IsNumberedFrom s.found.next) (work_of_end s).entries
-  pub begun : (settings : Settings) (found : Found) (files : ℕ → Bool) (sets : ℕ → Option SetStanding) → NewAreNumbered (begun settings found files sets)
+  pub begun : (settings : Settings) (found : Opened) (files : ℕ → Bool) (sets : ℕ → Option SetStanding) → NewAreNumbered (begun settings found files sets)
   pub step : (s : State) (session : ℕ) (what : Result Command Refusal) (reply : Reply) (after : State) → IsSound s → NewAreNumbered s → Step s session what reply after → NewAreNumbered after
   pub end : (s : State) → IsSound s → NewAreNumbered s → NewAreNumbered ((ended s).1)
   pub live : (s : State) (t : ℕ) → NewAreNumbered s → is_live t s.entries ≡ true → s.found.next ≤ t
@@ -180,7 +180,7 @@ FreePlaceIsAmongUsed = (s : State) → free_place s ≤ used_count s
 pub record WorksArePlain : Type 0 where
   pub works : (session : ℕ) (command : Command) (s : State) → HasRanges command → IsSound s → HasLogInRange s → HoldsStorable s → HasStorableRows s → EachOfWorks IsPlain (works_of session command s)
   pub end_works : (s : State) → IsSound s → HasLogInRange s → HoldsStorable s → Each IsPlain (work_of_end s).entries
-  pub begun : (settings : Settings) (found : Found) (files : ℕ → Bool) (sets : ℕ → Option SetStanding) → HasLogInRange (opened settings found files sets) → HoldsStorable (opened settings found files sets) →
+  pub begun : (settings : Settings) (found : Opened) (files : ℕ → Bool) (sets : ℕ → Option SetStanding) → HasLogInRange (opened settings found files sets) → HoldsStorable (opened settings found files sets) →
       lengths_fit settings.log_file_size found.end (length_of Mark ∷ []) ≡ true → HasLogInRange (begun settings found files sets) × HoldsStorable (begun settings found files sets)
   pub step : (s : State) (session : ℕ) (what : Result Command Refusal) (reply : Reply) (after : State) → IsOfGrammar what → IsSound s → HasLogInRange s → HoldsStorable s → HasStorableRows s →
       Step s session what reply after → HasLogInRange after × HoldsStorable after

@@ -3,7 +3,7 @@ use Rattle.std.specs.Prelude.{ℕ, suc, pos, ◌+◌, ◌-◌, ◌*◌, true, fa
 use Rattle.std.specs.declared.cmp.Ordering.{Ordering}
 use Rattle.std.specs.Ordering.{is_gt, nat_cmp}
 use Rattle.std.specs.Cmp.Lexicographic.{slice_cmp}
-use Rattle.tt_value.specs.Orders.{text_of}
+use Rattle.tt_value.specs.Order.{text_of}
 use Rattle.tt_value.specs.declared.value.Value.{Value}
 use Rattle.tt_value.specs.declared.value.Value.TheVariants.{Int}
 use Rattle.tt_value.specs.declared.value.Row.{Row}
@@ -15,7 +15,7 @@ use Rattle.tt_value.specs.declared.position.Position.{Position}
 use Rattle.tt_parse.specs.declared.command.ColumnText.{ColumnText}
 use Rattle.tt_model.specs.declared.definition.TableDef.{TableDef}
 use Rattle.tt_model.specs.declared.definition.IndexDef.{IndexDef}
-use Rattle.tt_record.specs.Places.{position as position_of}
+use Rattle.tt_record.specs.Place.{position as position_of}
 use Rattle.tt_model.specs.Committed.{Cells}
 use Rattle.tt_model.specs.Live.{numbers_below}
 use Rattle.tt_model.specs.Holders.{value_at}

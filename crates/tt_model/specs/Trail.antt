@@ -1,10 +1,10 @@
 -- The trail: the list of all entries with their positions, the newest first. So an entry is appended in front.
 use Rattle.std.specs.Prelude.{◌≡◌, ℕ, ◌-◌, Bool, true, List, [], ◌∷◌, length, drop, take, if◌then◌else◌}
 use Rattle.std.specs.Ordering.{is_eq, is_le, is_lt}
-use Rattle.tt_value.specs.Positions.{position_cmp}
+use Rattle.tt_value.specs.Position.{position_cmp}
 use Rattle.tt_value.specs.declared.position.Position.{Position}
-use Rattle.tt_record.specs.Entries.{length_of}
-use Rattle.tt_record.specs.Places.{end_of}
+use Rattle.tt_record.specs.Entry.{length_of}
+use Rattle.tt_record.specs.Place.{end_of}
 use Rattle.tt_record.specs.declared.entry.Entry.{Entry}
 
 -- An entry with its position.

@@ -4,7 +4,7 @@ use Rattle.std.specs.declared.cmp.Ordering.{Ordering}
 use Rattle.std.specs.Ordering.{is_eq, is_ne, is_lt, is_le, is_gt, is_ge}
 use Rattle.std.specs.Cmp.Lexicographic.{pointwise}
 use Rattle.tt_value.specs.Same.{same_value}
-use Rattle.tt_value.specs.Truths.{truth_of}
+use Rattle.tt_value.specs.Truth.{truth_of}
 use Rattle.tt_value.specs.declared.value.Value.{Value}
 use Rattle.tt_value.specs.declared.value.Value.TheVariants.{Null, Text}
 use Rattle.tt_value.specs.declared.truth.Truth.{Truth}

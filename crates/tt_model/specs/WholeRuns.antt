@@ -14,9 +14,9 @@ use Rattle.tt_parse.specs.declared.command.Command.{Command}
 use Rattle.tt_parse.specs.declared.command.Command.TheVariants.{CkptBlocking, Select, XlaNext}
 use Rattle.tt_record.specs.declared.entry.Entry.{Entry}
 use Rattle.tt_record.specs.declared.entry.Entry.TheVariants.{Change}
-use Rattle.tt_record.specs.Places.{position}
+use Rattle.tt_record.specs.Place.{position}
 use Rattle.tt_model.specs.Trail.{Trail, IsOrdered, position_le, trail_end, oldest}
-use Rattle.tt_model.specs.Found.{Found}
+use Rattle.tt_model.specs.Opened.{Opened}
 use Rattle.tt_value.specs.declared.value.Value.{Value}
 use Rattle.tt_model.specs.Holders.{HasOneHolder, has_null}
 use Rattle.tt_model.specs.Tables.{Table, Index, Subscribed, subscriptions_of, Catalog}
@@ -88,7 +88,7 @@ SelectsAreIsolated =
 -- ---- the order in which a reader is given changes
 
 -- What opening found stands in order, and before the end that it found.
-pub record IsInOrder (found : Found) : Type 0 where
+pub record IsInOrder (found : Opened) : Type 0 where
   pub ordered : IsOrdered (position 0 0) found.entries
   pub before_end : position_le (trail_end (position 0 0) found.entries) found.end ≡ true
 
@@ -154,7 +154,7 @@ ReadersHaveBookmarks s = (session : ℕ) (r : Reader) → s.reader session ≡ S
 
 -- The bookmark of an open reader stays. So every state that lines of sessions lead to is sound.
 pub record BookmarksStay : Type 0 where
-  pub begun : (settings : Settings) (found : Found) (files : ℕ → Bool) (sets : ℕ → Option SetStanding) → ReadersHaveBookmarks (begun settings found files sets)
+  pub begun : (settings : Settings) (found : Opened) (files : ℕ → Bool) (sets : ℕ → Option SetStanding) → ReadersHaveBookmarks (begun settings found files sets)
   pub step : (s : State) (session : ℕ) (what : Result Command Refusal) (reply : Reply) (after : State) → IsSession session → IsSound s → ReadersHaveBookmarks s →
       Step s session what reply after → IsSound after × ReadersHaveBookmarks after
   pub run : (lines : List Line) (replies : List Reply) (s after : State) → AreOfSessions lines → IsSound s → ReadersHaveBookmarks s →
@@ -182,7 +182,7 @@ pub record HeldOnce (catalog : Catalog) (trail : Trail) : Type 0 where
 -- A run begins with nobody who holds anything. Over each round, whatever its line, the keys and the unique values of all tables and
 -- indexes that were there before it stay with at most one holder.
 pub record HeldOnceStays : Type 0 where
-  pub begun : (settings : Settings) (found : Found) (files : ℕ → Bool) (sets : ℕ → Option SetStanding) (catalog : Catalog) → HeldOnce catalog ((begun settings found files sets).entries)
+  pub begun : (settings : Settings) (found : Opened) (files : ℕ → Bool) (sets : ℕ → Option SetStanding) (catalog : Catalog) → HeldOnce catalog ((begun settings found files sets).entries)
   pub step : (s : State) (session : ℕ) (what : Result Command Refusal) (reply : Reply) (after : State) → IsSound s → HeldOnce (catalog s) s.entries →
       Step s session what reply after → HeldOnce (catalog s) after.entries
 
@@ -190,7 +190,7 @@ pub record HeldOnceStays : Type 0 where
 -- holder.
 abbrev pub HeldOnceInRuns : Type 0
 HeldOnceInRuns =
-    (settings : Settings) (found : Found) (files : ℕ → Bool) (sets : ℕ → Option SetStanding) (lines : List Line) (replies : List Reply) (after : State)
+    (settings : Settings) (found : Opened) (files : ℕ → Bool) (sets : ℕ → Option SetStanding) (lines : List Line) (replies : List Reply) (after : State)
     → IsSound (begun settings found files sets) → AreOfSessions lines → Run (begun settings found files sets) lines replies after
     → HeldOnce (catalog after) after.entries
 
@@ -214,6 +214,6 @@ pub record TrailsGoOn : Type 0 where
 -- the trail go on.
 abbrev pub ForcedEntriesAreFound : Type 0
 ForcedEntriesAreFound =
-    (end : State → State) (begin : State) (lines : List Line) (replies : List Reply) (rest : List Line) (given : Option Reply) (f : Found) (run : FoundAfter end begin lines replies rest given f)
+    (end : State → State) (begin : State) (lines : List Line) (replies : List Reply) (rest : List Line) (given : Option Reply) (f : Opened) (run : FoundAfter end begin lines replies rest given f)
     → ((s : State) → GoesOn s (end s)) → IsSound begin → ReadersHaveBookmarks begin → AreOfSessions lines
     → (n : ℕ) × StandsForFirst n run.last f × (run.state.forced ≤ run.least) × (run.least ≤ n) × (oldest run.state.forced (oldest n (trail run.last)) ≡ oldest run.state.forced (trail run.state))

@@ -9,15 +9,15 @@ use Rattle.tt_parse.specs.declared.command.BackupKind.{BackupKind}
 use Rattle.tt_parse.specs.declared.command.BackupKind.TheVariants.{Full, FullEnable, Incremental, IncrOrFull, Stop}
 use Rattle.tt_record.specs.declared.entry.Entry.{Entry}
 use Rattle.tt_record.specs.declared.entry.Entry.TheVariants.{Change, Commit, Abort}
-use Rattle.tt_record.specs.Entries.{length_of}
+use Rattle.tt_record.specs.Entry.{length_of}
 use Rattle.tt_model.specs.Tables.{PlacedRow}
 use Rattle.tt_model.specs.Meaning.{Meant, Refuses, Gives, Makes, meant_by_insert, meant_by_update, meant_by_delete}
 use Rattle.tt_model.specs.System.{deletes, meant_by_create_table, meant_by_drop_table, meant_by_create_index, meant_by_drop_index, meant_by_create_bookmark, meant_by_delete_bookmark, meant_by_subscribe, meant_by_unsubscribe, meant_by_acknowledge}
 use Rattle.tt_model.specs.Backups.{kind_done, backup_refusal, row_of_set, set_edit}
 use Rattle.tt_model.specs.State.{State, next, live_in, place_for, write_position, lengths_fit, with_entry, with_edit, all_forced, reversals}
 use Rattle.tt_model.specs.declared.definition.CellEdit.{CellEdit}
-use Rattle.tt_model.specs.Step.{backup_place, checkpoint_open, edit_length, end_length, forced_where, is_durable, least_open, line, no_checkpoint_number, no_number_for, no_place, no_system_place, number_for, rollback_lengths}
-use Rattle.tt_model.specs.Run.{ended, ended_one, has_place}
+use Rattle.tt_model.specs.Step.{backup_position, checkpoint_open, edit_length, end_length, forced_where, is_durable, least_open, line, no_checkpoint_number, no_number_for, no_position, no_system_position, number_for, rollback_lengths}
+use Rattle.tt_model.specs.Run.{ended, ended_one, has_position}
 
 pub record Work : Type 0 where
   pub entries : List Entry
@@ -66,7 +66,7 @@ changes t (edit ∷ edits) s = Change t (place_for edit.place s) edit.before edi
 abbrev pub work_of_edits : ℕ → List CellEdit → State → Work
 work_of_edits session [] s = no_work
 work_of_edits session (e ∷ es) s =
-    unless_refused (option_or (no_number_for (s.own session) s) (no_place (map edit_length (e ∷ es)) s))
+    unless_refused (option_or (no_number_for (s.own session) s) (no_position (map edit_length (e ∷ es)) s))
     (record { entries = changes (number_for (s.own session) s) (e ∷ es) s; force = false })
 
 abbrev pub work_of_statement : ℕ → Meant → State → Work
@@ -76,14 +76,14 @@ work_of_statement session (Makes edits) s = work_of_edits session edits s
 
 abbrev pub work_of_commit : ℕ → Option ℕ → State → Work
 work_of_commit session None s = force_where (is_durable session s)
-work_of_commit session (Some t) s = unless_refused (no_place (end_length ∷ []) s) (record { entries = Commit t ∷ []; force = is_durable session s })
+work_of_commit session (Some t) s = unless_refused (no_position (end_length ∷ []) s) (record { entries = Commit t ∷ []; force = is_durable session s })
 
 abbrev pub rolled_entries : ℕ → State → List Entry
 rolled_entries t s = changes t (reversals t s.entries) s ++ Abort t ∷ []
 
 abbrev pub work_of_rollback : Option ℕ → State → Work
 work_of_rollback None s = no_work
-work_of_rollback (Some t) s = unless_refused (no_place (rollback_lengths t s) s) (record { entries = rolled_entries t s; force = false })
+work_of_rollback (Some t) s = unless_refused (no_position (rollback_lengths t s) s) (record { entries = rolled_entries t s; force = false })
 
 -- A transaction of its own.
 abbrev pub system_work : List CellEdit → State → Work
@@ -92,7 +92,7 @@ system_work edits s = record { entries = changes (next s) edits s ++ Commit (nex
 abbrev pub work_of_system : Meant → State → Work
 work_of_system (Refuses r) s = no_work
 work_of_system (Gives rows) s = no_work
-work_of_system (Makes edits) s = unless_refused (no_system_place edits s) (system_work edits s)
+work_of_system (Makes edits) s = unless_refused (no_system_position edits s) (system_work edits s)
 
 -- A backup forces the log, and once the set is written it may have a transaction of its own.
 abbrev pub works_unless : Option Refusal → List Work → List Work
@@ -114,7 +114,7 @@ works_of_backup set Stop s = stop_works s (row_of_set set s)
 works_of_backup set IncrOrFull s = []
 
 abbrev pub works_of_kind : ℕ → ℕ → BackupKind → State → List Work
-works_of_kind session set kind s = works_unless (option_or (backup_refusal session s set kind) (backup_place set kind s)) (works_of_backup set kind s)
+works_of_kind session set kind s = works_unless (option_or (backup_refusal session s set kind) (backup_position set kind s)) (works_of_backup set kind s)
 
 -- A blocking checkpoint completes, which forces the log.
 abbrev pub work_of_blocking : State → Work
@@ -157,7 +157,7 @@ work_behind es w = record { entries = es ++ w.entries; force = w.force }
 
 abbrev pub work_of_all : List ℕ → State → Work
 work_of_all [] s = force_where true
-work_of_all (t ∷ ts) s = elim (has_place t s) [ true ↦ work_behind (rolled_entries t s) (work_of_all ts (ended_one t s)) | false ↦ no_work ]
+work_of_all (t ∷ ts) s = elim (has_position t s) [ true ↦ work_behind (rolled_entries t s) (work_of_all ts (ended_one t s)) | false ↦ no_work ]
 
 abbrev pub work_of_end : State → Work
 work_of_end s = work_of_all (live_in s) (record s { underway = None })

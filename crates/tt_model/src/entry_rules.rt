@@ -1,6 +1,6 @@
-// What one more entry does to transactions, to the places and to the forced part of the log.
+//! What one more entry does to transactions, to the places and to the forced part of the log.
 ghost use Rattle.std.specs.Prelude.{◌≡◌, ◌≤◌, ◌<◌, ◌+◌, ◌∷◌, ◌^◌, ℕ, max, true, false, IsTrue};
-ghost use Rattle.tt_record.specs.Entries.{IsEntry};
+ghost use Rattle.tt_record.specs.Entry.{IsEntry};
 ghost use Rattle.tt_model.specs.Trail.{Trail, position_lt, placed_end};
 ghost use Rattle.tt_model.specs.Committed.{Cells, changed, is_full};
 ghost use Rattle.tt_model.specs.Forced.{forces_earlier};

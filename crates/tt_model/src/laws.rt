@@ -1,4 +1,5 @@
-// The laws of the definitions.
+//! The laws of the definitions, as contracts of functions that nobody calls: the gate names them so. Proofs import the theorems of the
+//! same names from `proofs/Theorems.antt`.
 ghost use Rattle.tt_model.specs.Laws.{AtMostOneHolds, CheckpointsOpen, CommitsAlone, EntryIsAppended, ForcedNeverFalls, GrownIsSteady, LinesHaveAnswers, MarkEndsAll, NextIsAboveAll, NextIsFresh, OpeningFindsCommitted, OwnChangesAreSeen, PlacesAndFirstEntries, ReversedMayAbort, SeenRowsMayChange, StatesStaySound};
 ghost use Rattle.tt_model.specs.GoodRows.{RowsStayGood, UsersRowsStayGood};
 ghost use Rattle.tt_model.specs.GoodCatalog.{CatalogStaysGood};

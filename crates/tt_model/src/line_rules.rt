@@ -1,4 +1,4 @@
-// Which lines are answered in any memory.
+//! Which lines are answered in any memory.
 ghost use Rattle.std.specs.Prelude.{◌≡◌};
 ghost use Rattle.tt_model.specs.Step.{takes_memory};
 

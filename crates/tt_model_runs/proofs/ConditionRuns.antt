@@ -2,7 +2,7 @@
 -- conditions mean, one after another, and each condition's meaning is given by a law of its own.
 use Rattle.std.proofs.Common.{◌≡◌, ℕ, Bool, List, [], ◌∷◌, filter, map, Option, Some, None, refl, ap, ◌∙◌}
 use Rattle.std.specs.Option.{option_or}
-use Rattle.tt_value.specs.Truths.{negated, both_of, either_of}
+use Rattle.tt_value.specs.Truth.{negated, both_of, either_of}
 use Rattle.tt_value.specs.declared.truth.Truth.{Truth}
 use Rattle.tt_value.specs.declared.value.Row.{Row}
 use Rattle.tt_value.specs.declared.value.Cell.TheVariants.{Empty}

@@ -1,6 +1,6 @@
 -- Which damage rows are, by computing: a table of a key and a number with one row, and one cell or two that are changed.
 use Rattle.std.proofs.Common.{◌≡◌, ℕ, pos, List, [], ◌∷◌, codes, Option, Some, None, refl}
-use Rattle.tt_value.specs.Names.{is_name, is_reserved}
+use Rattle.tt_value.specs.Ident.{is_name, is_reserved}
 use Rattle.tt_value.specs.declared.value.Value.{Value}
 use Rattle.tt_value.specs.declared.value.Value.TheVariants.{Null, Number, Text}
 use Rattle.tt_value.specs.declared.value.Cell.{Cell}
@@ -10,7 +10,7 @@ use Rattle.tt_model.specs.declared.damage.Damage.TheVariants.{BadCatalog, BadRow
 use Rattle.tt_model.specs.Committed.{Cells, no_cells, put}
 use Rattle.tt_model.specs.Tables.{catalog_of, rows_of}
 use Rattle.tt_model.specs.System.{number}
-use Rattle.tt_model.specs.Damages.{first_bad, first_bad_catalog, first_bad_row}
+use Rattle.tt_model.specs.Damage.{first_bad, first_bad_catalog, first_bad_row}
 
 abbrev cell : ℕ → List Value → Cell
 cell table values = Full table (record { values = values })

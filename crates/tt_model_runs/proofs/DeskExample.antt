@@ -1,6 +1,6 @@
 -- A desk's day: three sessions, a reader and a checkpoint over two tables, by computing.
 use Rattle.std.proofs.Common.{◌≡◌, ℕ, pos, true, false, List, [], ◌∷◌, map, codes, Some, None, refl, ap, ◌∙◌}
-use Rattle.tt_value.specs.Words.{big_endian}
+use Rattle.tt_value.specs.BigEndian.{big_endian}
 use Rattle.tt_value.specs.declared.value.Value.{Value}
 use Rattle.tt_value.specs.declared.value.Value.TheVariants.{Null, Number, Text}
 use Rattle.tt_value.specs.declared.value.ColumnType.TheVariants.{BigInt, Varchar, Number as NumberOf}
@@ -19,7 +19,7 @@ use Rattle.tt_parse.specs.declared.cond.Op.TheVariants.{Eq}
 use Rattle.tt_parse.specs.declared.cond.Operand.TheVariants.{Literal as OfLiteral}
 use Rattle.tt_parse.specs.declared.cond.Cond.{Cond, roll-Cond}
 use Rattle.tt_parse.specs.declared.cond.Cond.TheOpen.{Compare, Not}
-use Rattle.tt_record.specs.Places.{position}
+use Rattle.tt_record.specs.Place.{position}
 use Rattle.tt_model.specs.Trail.{before}
 use Rattle.tt_model.specs.Committed.{committed}
 use Rattle.tt_model.specs.Live.{live, in_use, next_number}

@@ -23,7 +23,7 @@ use Rattle.tt_set.specs.declared.settings.Settings.{Settings}
 use Rattle.tt_model.specs.Trail.{Trail, oldest}
 use Rattle.tt_model.specs.Committed.{no_cells}
 use Rattle.tt_model.specs.Live.{next_number, numbers_from}
-use Rattle.tt_model.specs.Found.{Found, created, only_first, first_head}
+use Rattle.tt_model.specs.Opened.{Opened, created, only_first, first_head}
 use Rattle.tt_model.specs.State.{State, trail, force_position}
 use Rattle.tt_model.specs.Run.{begun}
 use Rattle.tt_model.specs.Standing.{standing}
@@ -54,7 +54,7 @@ abbrev pub start : Settings → State
 start settings = begun settings (created 1) (λ n. nat_eq n 0) (λ n. None)
 
 -- What opening finds where a run stopped and just its forced entries are left, over the empty first image.
-abbrev pub left_by : Trail → State → Found
+abbrev pub left_by : Trail → State → Opened
 left_by entries s = record { cells = standing no_cells entries; entries = entries; end = force_position s; next = next_number 1 entries; heads = only_first (first_head 0 1) }
 
 abbrev pub again_with : Settings → State → State

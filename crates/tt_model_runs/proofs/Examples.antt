@@ -1,9 +1,9 @@
 -- What the definitions give for small runs, by computing. Each line is a session and its command. Where lines have conditions, the
 -- replies are computed from what these mean.
 use Rattle.std.proofs.Common.{◌≡◌, ℕ, zero, suc, nat_lt, if◌then◌else◌, take, drop, pos, true, false, List, [], ◌∷◌, ◌++◌, map, codes, Option, Some, None, refl, ap, ◌∙◌, Less, Greater, Equal}
-use Rattle.tt_value.specs.Orders.{value_cmp, compared}
-use Rattle.tt_value.specs.Truths.{negated}
-use Rattle.tt_value.specs.Words.{big_endian}
+use Rattle.tt_value.specs.Order.{value_cmp, compared}
+use Rattle.tt_value.specs.Truth.{negated}
+use Rattle.tt_value.specs.BigEndian.{big_endian}
 use Rattle.tt_value.specs.declared.value.Value.TheVariants.{Null, Int, Number, Text}
 use Rattle.tt_value.specs.declared.value.Row.{Row}
 use Rattle.tt_value.specs.declared.value.Cell.TheVariants.{Full}
@@ -22,7 +22,7 @@ use Rattle.tt_parse.specs.declared.cond.Op.TheVariants.{Eq}
 use Rattle.tt_parse.specs.declared.cond.Operand.TheVariants.{Literal as OfLiteral}
 use Rattle.tt_parse.specs.declared.cond.Cond.{Cond, roll-Cond, fold-roll-Cond}
 use Rattle.tt_parse.specs.declared.cond.Cond.TheOpen.{Compare, Not}
-use Rattle.tt_record.specs.Places.{position}
+use Rattle.tt_record.specs.Place.{position}
 use Rattle.tt_record.specs.declared.entry.Entry.{Entry}
 use Rattle.tt_record.specs.declared.entry.Entry.TheVariants.{Mark as MarkEntry, Commit as CommitEntry, Switch as SwitchEntry}
 use Rattle.tt_model.specs.Trail.{oldest, since, before}
@@ -34,8 +34,8 @@ use Rattle.tt_model.specs.Forced.{forced_for}
 use Rattle.tt_model.specs.Tables.{Table, rows_of, catalog_of}
 use Rattle.tt_model.specs.Holds.{first_entry, low, holds_of}
 use Rattle.tt_model.specs.Conditions.{takes, truth_at, truth, has_columns, has_kinds}
-use Rattle.tt_model.specs.Found.{Found, created, only_first, first_head}
-use Rattle.tt_model.specs.Sets.{SetStanding, Sound, Unsound, set_cells, restored}
+use Rattle.tt_model.specs.Opened.{Opened, created, only_first, first_head}
+use Rattle.tt_model.specs.Sets.{SetStanding, Readable, Unreadable, set_cells, restored}
 use Rattle.tt_model.specs.Meaning.{meant_by_insert, meant_by_update, meant_by_delete, meant_by_select}
 use Rattle.tt_model.specs.System.{meant_by_create_table, meant_by_drop_table, meant_by_create_index, meant_by_drop_index, meant_by_create_bookmark, meant_by_delete_bookmark, meant_by_subscribe, meant_by_unsubscribe, meant_by_acknowledge}
 use Rattle.tt_model.specs.Backups.{backup_refusal}
@@ -244,7 +244,7 @@ abbrev copied_image : State → State → Cells
 copied_image begun updated place = if nat_lt place 32 then current begun.found.cells begun.entries place else current updated.found.cells updated.entries place
 
 -- What opening finds of it where the run stops: the image with the forced entries from its scan position on.
-abbrev found_by_image : Cells → State → Found
+abbrev found_by_image : Cells → State → Opened
 found_by_image image s =
     let entries = oldest s.forced (trail s) in
     record { cells = standing image (since (position 0 3015) entries); entries = entries; end = force_position s; next = next_number 1 entries; heads = s.heads }
@@ -471,8 +471,8 @@ full_and_incremental = refl
 -- The rows of kv that a set stands for, and those that restoring it leaves.
 abbrev rows_in : Option SetStanding → List (List Row)
 rows_in None = []
-rows_in (Some Unsound) = []
-rows_in (Some (Sound set)) = map (λ r. r.1) (rows_of 16 32 (set_cells set)) ∷ map (λ r. r.1) (rows_of 16 32 (restored set 1).cells) ∷ []
+rows_in (Some Unreadable) = []
+rows_in (Some (Readable set)) = map (λ r. r.1) (rows_of 16 32 (set_cells set)) ∷ map (λ r. r.1) (rows_of 16 32 (restored set 1).cells) ∷ []
 
 -- The set has the first row after the full backup, and both after the incremental one.
 rows_of_the_full_set : rows_in ((after (take 4 full_and_incremental_lines) (start usual)).sets 1) ≡ (pair_row 1 10 ∷ []) ∷ (pair_row 1 10 ∷ []) ∷ []

@@ -7,7 +7,7 @@ use Rattle.std.specs.Option.{option_or}
 use Rattle.std.specs.Ordering.{int_eq}
 use Rattle.std.proofs.lemmas.Bool.{eq-eqb, eqb-true, eqb-false, le-ltb, lt-ltb, le-leb, lt-leb, ltb-true, ltb-false, leb-true, leb-false, both_ways, false_from_ne_true}
 use Rattle.std.proofs.lemmas.List.Sums.{count_by-le-length}
-use Rattle.tt_value.specs.Words.{big_endian}
+use Rattle.tt_value.specs.BigEndian.{big_endian}
 use Rattle.tt_value.specs.declared.value.Value.TheVariants.{Int, Text}
 use Rattle.tt_value.specs.declared.value.Row.{Row}
 use Rattle.tt_value.specs.declared.value.Cell.{Cell}
@@ -20,8 +20,8 @@ use Rattle.tt_value.specs.declared.reply.Reply.{Reply}
 use Rattle.tt_value.specs.declared.reply.Reply.TheVariants.{Changed}
 use Rattle.tt_parse.specs.declared.command.Command.{Command}
 use Rattle.tt_set.specs.declared.settings.Settings.{Settings}
-use Rattle.tt_record.specs.Entries.{length_of}
-use Rattle.tt_record.specs.Places.{position, next_place, end_of}
+use Rattle.tt_record.specs.Entry.{length_of}
+use Rattle.tt_record.specs.Place.{position, next_position, end_of}
 use Rattle.tt_record.specs.declared.entry.Entry.{Entry}
 use Rattle.tt_record.specs.declared.entry.Entry.TheVariants.{Change}
 use Rattle.tt_model.specs.Trail.{Trail}
@@ -31,12 +31,12 @@ use Rattle.tt_model.specs.Holders.{Held, has_held, other_holder, values_at}
 use Rattle.tt_model.specs.Values.{same_values}
 use Rattle.tt_model.specs.Holds.{first_entry}
 use Rattle.tt_model.specs.Tables.{Table, PlacedRow, row_in, row_at, rows_of, catalog_of, table_named, unique_of, Catalog}
-use Rattle.tt_model.specs.Found.{created, only_first, first_head}
+use Rattle.tt_model.specs.Opened.{created, only_first, first_head}
 use Rattle.tt_model.specs.State.{State, trail, view, cells_of, bound, catalog, is_used, used_count, free_place, live_in, write_position, at_one, placed, with_entry, lengths_fit}
 use Rattle.tt_model.specs.declared.definition.CellEdit.{CellEdit}
 use Rattle.tt_model.specs.Meaning.{Meant, Makes, refused_if, first_of, unless, row_refusal, conflict, key_name, key_there, no_room, rows_seen, insert_refusal, insert_into, is_value_out, meant_by_insert}
 use Rattle.tt_model.specs.Checkpoint.{with_copies, copied}
-use Rattle.tt_model.specs.Step.{Answered, stepped, line, unless_refused, statement, made_in, number_for, no_number_for, no_place, edit_length, completion_after}
+use Rattle.tt_model.specs.Step.{Answered, stepped, line, unless_refused, statement, made_in, number_for, no_number_for, no_position, edit_length, completion_after}
 use Rattle.tt_model.proofs.RowLemmas.{none_from, first_from}
 use Rattle.tt_model.proofs.HolderLemmas.{other_holder-own_Change, in_use-Change, first_entry-kept}
 use Rattle.tt_model.proofs.AppendLemmas.{cells-Change, live-Change, view-Change, write_position-with_entry}
@@ -226,7 +226,7 @@ length-entry t p k = refl
 
 -- Where the log ends behind one more row.
 abbrev pub place_after : Inserter → Position → Position
-place_after w end = next_place end 40 w.settings.log_file_size
+place_after w end = next_position end 40 w.settings.log_file_size
 
 abbrev pub end_after : Inserter → Position → Position
 end_after w end = end_of (place_after w end) 40
@@ -235,24 +235,24 @@ next_file_by : (c : Bool) (end : Position) → ((if c then end else position (en
 next_file_by true end = omega arith
 next_file_by false end = le_refl (end.file + 1)
 
-pub next-file : (end : Position) (n size : ℕ) → (next_place end n size).file ≤ end.file + 1
+pub next-file : (end : Position) (n size : ℕ) → (next_position end n size).file ≤ end.file + 1
 next-file end n size = next_file_by (nat_le (end.offset + n) size) end
 
 same_file_by : (c : Bool) (end : Position) → end.file ≤ ((if c then end else position (end.file + 1) 0).file)
 same_file_by true end = le_refl end.file
 same_file_by false end = omega arith
 
-pub same-file : (end : Position) (n size : ℕ) → end.file ≤ (next_place end n size).file
+pub same-file : (end : Position) (n size : ℕ) → end.file ≤ (next_position end n size).file
 same-file end n size = same_file_by (nat_le (end.offset + n) size) end
 
 -- An entry behind an end whose file isn't the last has a place.
 fits-one : (size n : ℕ) (end : Position) → end.file + 1 < 1000000 → lengths_fit size end (n ∷ []) ≡ true
 fits-one size n end h =
-    let next : (next_place end n size).file ≤ end.file + 1 = next-file end n size in
-    let there : nat_lt ((next_place end n size).file) 1000000 ≡ true = lt-ltb ((next_place end n size).file) 1000000 (omega (arith, next, h)) in
-    ap (λ b. elim (if b then Some (next_place end n size) else None) as (λ x. Bool) [ None ↦ false | Some at ↦ true ]) there
+    let next : (next_position end n size).file ≤ end.file + 1 = next-file end n size in
+    let there : nat_lt ((next_position end n size).file) 1000000 ≡ true = lt-ltb ((next_position end n size).file) 1000000 (omega (arith, next, h)) in
+    ap (λ b. elim (if b then Some (next_position end n size) else None) as (λ x. Bool) [ None ↦ false | Some at ↦ true ]) there
 
-pub place-none : (n : ℕ) (s : State) (end : Position) → write_position s ≡ end → end.file + 1 < 1000000 → no_place (n ∷ []) s ≡ None
+pub place-none : (n : ℕ) (s : State) (end : Position) → write_position s ≡ end → end.file + 1 < 1000000 → no_position (n ∷ []) s ≡ None
 place-none n s end e h =
     ap (λ b. refused_if (not b) LogOut) (ap (λ x. lengths_fit s.settings.log_file_size x (n ∷ [])) e ∙ fits-one s.settings.log_file_size n end h)
 
@@ -332,7 +332,7 @@ inserted w p k end s i h l m f =
     let edits : List CellEdit = new_row k ∷ [] in
     stepped-alone w.session (pair k 1) s h.underway
     ∙ (ap (λ (meant : Meant). statement w.session meant s) (insert-makes w p k end s i h l m)
-    ∙ (ap (λ (o : Option ℕ). unless_refused (option_or (no_number_for o s) (no_place (map edit_length edits) s)) (Changed 1, made_in w.session (number_for o s) edits s) s) (h.own w.session ∙ i.own)
+    ∙ (ap (λ (o : Option ℕ). unless_refused (option_or (no_number_for o s) (no_position (map edit_length edits) s)) (Changed 1, made_in w.session (number_for o s) edits s) s) (h.own w.session ∙ i.own)
     ∙ (ap (λ (o : Option Refusal). unless_refused o (Changed 1, made_in w.session w.number edits s) s) (place-none (edit_length (new_row k)) s end h.end f)
     ∙ ap (λ (q : ℕ). (Changed 1, row_added w q k s)) (free-is w p k end s h))))
 
@@ -386,9 +386,9 @@ files_more n file next l m = by_test (nat_eq n next) refl (nat_le n file) refl
 
 place-is : (w : Inserter) (p k : ℕ) (end : Position) (s : State) → Filled w p k end s → ((placed (added_entry w p k) s).at) ≡ place_after w end
 place-is w p k end s h =
-    ap (λ (x : Position). next_place x (length_of (added_entry w p k)) s.settings.log_file_size) h.end
-    ∙ (ap (λ (n : ℕ). next_place end n s.settings.log_file_size) (length-entry w.number p k)
-    ∙ ap (λ (x : Settings). next_place end 40 x.log_file_size) h.settings)
+    ap (λ (x : Position). next_position x (length_of (added_entry w p k)) s.settings.log_file_size) h.end
+    ∙ (ap (λ (n : ℕ). next_position end n s.settings.log_file_size) (length-entry w.number p k)
+    ∙ ap (λ (x : Settings). next_position end 40 x.log_file_size) h.settings)
 
 filled-added : (w : Inserter) (p k : ℕ) (end : Position) (s : State) → IsInserting w → Filled w p k end s → Filled w (suc p) (suc k) (end_after w end) (row_added w p k s)
 unfolding with_entry

@@ -3,7 +3,7 @@ use Rattle.std.proofs.Common.{◌≡◌, ◌≤◌, ◌<◌, ℕ, ◌+◌, ◌*�
 use Rattle.std.specs.Prelude.{filter_map, option_map, ◌≢◌}
 use Rattle.std.specs.Option.{option_or}
 use Rattle.std.proofs.lemmas.Bool.{and_parts, eqb-true, eqb-false, le-leb, leb-true, lt-leb}
-use Rattle.tt_value.specs.Words.{big_endian}
+use Rattle.tt_value.specs.BigEndian.{big_endian}
 use Rattle.tt_value.specs.declared.value.Cell.{Cell}
 use Rattle.tt_value.specs.declared.value.Cell.TheVariants.{Empty, Full}
 use Rattle.tt_value.specs.declared.position.Position.{Position}
@@ -13,19 +13,19 @@ use Rattle.tt_value.specs.declared.reply.Reply.{Reply}
 use Rattle.tt_value.specs.declared.reply.Reply.TheVariants.{Done, Changed}
 use Rattle.tt_parse.specs.declared.command.Command.TheVariants.{Commit as CommitLine, CkptBlocking}
 use Rattle.tt_set.specs.declared.settings.Settings.{Settings}
-use Rattle.tt_record.specs.Entries.{length_of}
-use Rattle.tt_record.specs.Places.{position, next_place, end_of}
+use Rattle.tt_record.specs.Entry.{length_of}
+use Rattle.tt_record.specs.Place.{position, next_position, end_of}
 use Rattle.tt_record.specs.declared.entry.Entry.{Entry}
 use Rattle.tt_record.specs.declared.entry.Entry.TheVariants.{Change, Commit, Abort, Mark, Switch}
 use Rattle.tt_model.specs.Trail.{Trail, trail_end, before}
-use Rattle.tt_model.specs.Committed.{Cells, no_cells, put, changed, changed_by, settled as settled_cells, committed}
+use Rattle.tt_model.specs.Committed.{Cells, no_cells, put, changed, changed_by, after_commit as settled_cells, committed}
 use Rattle.tt_model.specs.Live.{live, without_number}
 use Rattle.tt_model.specs.Holds.{first_entry, first_entries, least_of, low}
 use Rattle.tt_model.specs.Tables.{row_in, rows_of}
-use Rattle.tt_model.specs.Found.{created, only_first, first_head}
-use Rattle.tt_model.specs.State.{State, Begun, trail, live_in, write_position, at_one, placed, with_entry}
+use Rattle.tt_model.specs.Opened.{created, only_first, first_head}
+use Rattle.tt_model.specs.State.{State, Underway, trail, live_in, write_position, at_one, placed, with_entry}
 use Rattle.tt_model.specs.Checkpoint.{with_all_copies, with_completion, begin_checkpoint}
-use Rattle.tt_model.specs.Step.{Answered, stepped, line, unless_refused, end_length, commit_of, settled, forced_where, is_durable, no_checkpoint_number, least_open, begun_reply}
+use Rattle.tt_model.specs.Step.{Answered, stepped, line, unless_refused, end_length, commit_of, session_ended, forced_where, is_durable, no_checkpoint_number, least_open, begun_reply}
 use Rattle.tt_model_runs.proofs.ConditionRuns.{Line, replies, after}
 use Rattle.tt_model_runs.proofs.ExampleWords.{pairs}
 use Rattle.tt_model.proofs.HolderLemmas.{first_entry-kept}
@@ -178,7 +178,7 @@ put-in settings own numbers pages end s h = λ i. record {
 -- ---- the commit
 
 abbrev pub rows_committed : Inserter → State → State
-rows_committed w s = settled w.session (with_entry (Commit w.number) s)
+rows_committed w s = session_ended w.session (with_entry (Commit w.number) s)
 
 pub length-Commit : (t : ℕ) → length_of (Commit t) ≡ 9
 unfolding big_endian
@@ -192,15 +192,15 @@ commits w p k end s i d h f =
     let durable : is_durable w.session s ≡ false = ap (λ (x : Settings). x.durable_commits || s.wish w.session) h.settings ∙ (ap (λ b. b || s.wish w.session) d ∙ h.wish w.session) in
     stepped-alone w.session CommitLine s h.underway
     ∙ (ap (λ (o : Option ℕ). commit_of w.session o s) own
-    ∙ (ap (λ (o : Option Refusal). unless_refused o (Done, settled w.session (forced_where (is_durable w.session s) (with_entry (Commit w.number) s))) s) (place-none end_length s end h.end f)
-    ∙ ap (λ b. (Done, settled w.session (forced_where b (with_entry (Commit w.number) s)))) durable))
+    ∙ (ap (λ (o : Option Refusal). unless_refused o (Done, session_ended w.session (forced_where (is_durable w.session s) (with_entry (Commit w.number) s))) s) (place-none end_length s end h.end f)
+    ∙ ap (λ b. (Done, session_ended w.session (forced_where b (with_entry (Commit w.number) s)))) durable))
 
 no_wish : (other session : ℕ) (wish : ℕ → Bool) → wish other ≡ false → (c : Bool) → (if c then false else wish other) ≡ false
 no_wish other session wish h true = refl
 no_wish other session wish h false = h
 
 abbrev pub commit_place : Inserter → Position → Position
-commit_place w end = next_place end 9 w.settings.log_file_size
+commit_place w end = next_position end 9 w.settings.log_file_size
 
 pub written-commit : (w : Inserter) (p k pages : ℕ) (end : Position) (s : State) → Filled w p k end s → s.pages ≡ pages →
     Written w.settings (at_one w.session None w.own) (without_number w.number w.live) pages (end_of (commit_place w end) 9) (rows_committed w s)
@@ -208,8 +208,8 @@ unfolding with_entry
 written-commit w p k pages end s h g =
     let at : Position = (placed (Commit w.number) s).at in
     let place : at ≡ commit_place w end
-    = ap (λ (x : Position). next_place x (length_of (Commit w.number)) s.settings.log_file_size) h.end
-    ∙ (ap (λ (n : ℕ). next_place end n s.settings.log_file_size) (length-Commit w.number) ∙ ap (λ (x : Settings). next_place end 9 x.log_file_size) h.settings) in
+    = ap (λ (x : Position). next_position x (length_of (Commit w.number)) s.settings.log_file_size) h.end
+    ∙ (ap (λ (n : ℕ). next_position end n s.settings.log_file_size) (length-Commit w.number) ∙ ap (λ (x : Settings). next_position end 9 x.log_file_size) h.settings) in
     record {
       settings = h.settings;
       found = h.found;
@@ -273,7 +273,7 @@ unfolding line
 blocking-alone session s u l n =
     let done : State = with_completion (with_all_copies (begin_checkpoint s)) in
     stepped-alone session CkptBlocking s u
-    ∙ (ap (λ b. unless_refused (option_or (option_map (λ (x : Begun). CkptOpen x.number) b) (option_or (least_open (live_in s)) (no_checkpoint_number s))) (begun_reply s, done) s) u
+    ∙ (ap (λ b. unless_refused (option_or (option_map (λ (x : Underway). CkptOpen x.number) b) (option_or (least_open (live_in s)) (no_checkpoint_number s))) (begun_reply s, done) s) u
     ∙ (ap (λ us. unless_refused (option_or (least_open us) (no_checkpoint_number s)) (begun_reply s, done) s) l
     ∙ ap (λ o. unless_refused o (begun_reply s, done) s) n))
 

@@ -2,7 +2,7 @@
 use Rattle.std.proofs.Common.{◌≡◌, ◌≤◌, ℕ, zero, suc, pos, Bool, true, false, cond, if◌then◌else◌, ◌&&◌, ◌||◌, nat_eq, nat_lt, nat_le, List, [], ◌∷◌, ◌++◌, replicate, Option, Some, None, refl, sym, ap, ◌∙◌, true≢false, arith}
 use Rattle.std.proofs.lemmas.Bool.{and_right, le-ltb, le-leb, lt-leb}
 use Rattle.std.specs.Ordering.{int_eq}
-use Rattle.tt_value.specs.Words.{big_endian}
+use Rattle.tt_value.specs.BigEndian.{big_endian}
 use Rattle.tt_value.specs.declared.value.Cell.TheVariants.{Full}
 use Rattle.tt_value.specs.declared.refusal.Refusal.{Refusal}
 use Rattle.tt_value.specs.declared.refusal.Refusal.TheVariants.{TransactionOpen}
@@ -11,7 +11,7 @@ use Rattle.tt_value.specs.declared.reply.Reply.TheVariants.{Done, Changed, Check
 use Rattle.tt_value.specs.declared.reply.HoldKind.TheVariants.{Checkpoint as OfCheckpoint, Transaction as OfTransaction}
 use Rattle.tt_parse.specs.declared.command.Command.TheVariants.{Commit, Ckpt, CkptBlocking, LogHolds}
 use Rattle.tt_set.specs.declared.settings.Settings.{Settings}
-use Rattle.tt_record.specs.Places.{position}
+use Rattle.tt_record.specs.Place.{position}
 use Rattle.tt_record.specs.declared.entry.Entry.TheVariants.{Commit as CommitEntry}
 use Rattle.tt_model.specs.Trail.{trail_end}
 use Rattle.tt_model.specs.Committed.{Cells, put, is_full, committed}
@@ -24,7 +24,7 @@ use Rattle.tt_model.specs.Meaning.{meant_by_insert}
 use Rattle.tt_model.specs.System.{meant_by_create_table}
 use Rattle.tt_model.specs.Checkpoint.{with_copies, with_all_copies, with_completion, begin_checkpoint, completed}
 use Rattle.tt_model.specs.State.{State, trail, live_in, low_now, write_position, at_one, with_entry, all_forced}
-use Rattle.tt_model.specs.Step.{line, stepped, unless_refused, settled, end_length, completion_after}
+use Rattle.tt_model.specs.Step.{line, stepped, unless_refused, session_ended, end_length, completion_after}
 use Rattle.tt_model.specs.Run.{begun, stale_at_start}
 use Rattle.tt_model_runs.proofs.ConditionRuns.{Line, replies, after}
 use Rattle.tt_model_runs.proofs.ExampleWords.{settings_of, small_files, start, create_kv, pair, pairs, pair_row, held}
@@ -426,7 +426,7 @@ module _ (s : State) (h : Written small_files first_own (2 ∷ []) 63 (position 
   begun_second = begin_checkpoint ended_first
 
   ended_second : State
-  ended_second = with_completion (settled 1 (with_entry (CommitEntry 2) (with_copies begun_second)))
+  ended_second = with_completion (session_ended 1 (with_entry (CommitEntry 2) (with_copies begun_second)))
 
   second_begins : stepped 2 Ckpt ended_first ≡ (Checkpoint 3 63, begun_second)
   unfolding state_before line with_copies begin_checkpoint begun_first with_completion completed all_forced ended_first begun_second
@@ -441,7 +441,7 @@ module _ (s : State) (h : Written small_files first_own (2 ∷ []) 63 (position 
   second_ends =
       let mid : State = with_copies begun_second in
       ap (λ (o : Option Refusal).
-      ((unless_refused o (Done, settled 1 (with_entry (CommitEntry 2) mid)) mid).0, completion_after begun_second.underway ((unless_refused o (Done, settled 1 (with_entry (CommitEntry 2) mid)) mid).1)))
+      ((unless_refused o (Done, session_ended 1 (with_entry (CommitEntry 2) mid)) mid).0, completion_after begun_second.underway ((unless_refused o (Done, session_ended 1 (with_entry (CommitEntry 2) mid)) mid).1)))
       (place-none end_length mid (position 9 6809) second_end (omega arith))
 
   -- with no transaction live

@@ -1,6 +1,6 @@
 -- What single lines are answered, by computing: small runs with the refusals of their lines.
 use Rattle.std.proofs.Common.{◌≡◌, ℕ, nat_eq, if◌then◌else◌, take, drop, true, false, List, [], ◌∷◌, ◌++◌, codes, Some, None, refl, ap, ap₂, ◌∙◌}
-use Rattle.tt_value.specs.Words.{big_endian}
+use Rattle.tt_value.specs.BigEndian.{big_endian}
 use Rattle.tt_value.specs.declared.value.Value.TheVariants.{Null, Text}
 use Rattle.tt_value.specs.declared.refusal.Refusal.TheVariants.{NoColumn, TooMany, NotIncremental, SetThere, NoSet, NoReader, NotSubscribed, BookmarkThere, NoBookmark, CkptOpen, NoTable, NullRefused, WrongType, NameThere, DuplicateKey, LockConflict, InTransaction, BookmarkBusy}
 use Rattle.tt_value.specs.declared.reply.Reply.{Reply}
@@ -16,10 +16,10 @@ use Rattle.tt_parse.specs.declared.cond.Op.TheVariants.{Eq, Gt, Le}
 use Rattle.tt_parse.specs.declared.cond.Operand.TheVariants.{Literal as OfLiteral, Column as OfColumn}
 use Rattle.tt_parse.specs.declared.cond.Cond.{Cond, roll-Cond}
 use Rattle.tt_parse.specs.declared.cond.Cond.TheOpen.{Compare, IsNull, And, Or}
-use Rattle.tt_record.specs.Places.{position}
+use Rattle.tt_record.specs.Place.{position}
 use Rattle.tt_record.specs.declared.entry.Entry.{Entry}
 use Rattle.tt_record.specs.declared.entry.Entry.TheVariants.{Mark as MarkEntry}
-use Rattle.tt_model.specs.Found.{only_first, first_head}
+use Rattle.tt_model.specs.Opened.{only_first, first_head}
 use Rattle.tt_model.specs.Trail.{Trail, before}
 use Rattle.tt_model.specs.Committed.{no_cells, committed, current}
 use Rattle.tt_model.specs.Live.{live, in_use, next_number}

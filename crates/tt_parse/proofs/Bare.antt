@@ -9,7 +9,7 @@ use Rattle.tt_parse.specs.Tokens.{Token}
 use Rattle.tt_parse.specs.Script as g
 use Rattle.tt_parse.specs.Script.{G}
 use Rattle.tt_parse.specs.Reading as r
-use Rattle.tt_parse.specs.Parsing.{is_bare}
+use Rattle.tt_parse.specs.Parse.{is_bare}
 use Rattle.tt_parse.proofs.ExactLine.{chosen-statement, exact-line, more_line}
 
 -- each value that is spelled fails the test

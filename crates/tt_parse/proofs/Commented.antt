@@ -2,11 +2,11 @@
 use Rattle.std.proofs.Common.{◌≡◌, ℕ, false, not, List, [], ◌∷◌, refl}
 use Rattle.std.specs.Prelude.{◌==◌}
 use Rattle.std.specs.List.{filter}
-use Rattle.tt_parse.specs.declared.lex.Class.TheVariants.{Blank}
+use Rattle.tt_parse.specs.declared.tokens.Class.TheVariants.{Blank}
 use Rattle.tt_parse.specs.declared.command.Command.{Command}
 use Rattle.tt_parse.specs.declared.command.Command.TheVariants as commands
 use Rattle.tt_parse.specs.Tokens.{is_in}
-use Rattle.tt_parse.specs.Parsing.{is_comment, is_skipped}
+use Rattle.tt_parse.specs.Parse.{is_comment, is_skipped}
 use Rattle.tt_parse.specs.Spelling.{pieces, spelling, joined}
 
 no_comment : (b : ℕ) (z : List ℕ) → (b == 45) ≡ false → is_comment (b ∷ z) ≡ false

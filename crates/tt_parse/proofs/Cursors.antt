@@ -10,9 +10,9 @@ use Rattle.tt_parse.specs.declared.cursor.Lexeme.{Lexeme}
 use denote.Enum.Bare.{same_true, false_same}
 use Rattle.tt_parse.specs.contracts.kind.Kind.{the_type}
 use Rattle.tt_parse.specs.declared.kind.Kind.TheVariants.{Unclosed, End}
-use Rattle.tt_parse.specs.declared.lex.Class.TheVariants.{Blank}
+use Rattle.tt_parse.specs.declared.tokens.Class.TheVariants.{Blank}
 use Rattle.tt_parse.specs.Tokens.{same_kind, Token, tokens_from, first, is_in, past}
-use Rattle.tt_parse.specs.Cursor.{behind, shown, token_of, next_kind, past_next, next_bytes, IsPlace}
+use Rattle.tt_parse.specs.Cursor.{behind, shown, token_of, next_kind, past_next, next_bytes, IsOffset}
 
 tokens_of-drop : (n at : ℕ) (z : List ℕ) → n ≤ length z → tokens_from n at z ≡ tokens_from 0 (at + n) (drop n z)
 unfolding tokens_from
@@ -83,7 +83,7 @@ behind-rest line at n h some fits =
           ∙ ap (λ z. tokens_from 0 (at + n) z) d ∙ sym (behind-at line (at + n) inside))
     ]
 
--- from a place within the line: past the blanks
+-- from an offset within the line: past the blanks
 pub behind-blanks : (line : List ℕ) (from at : ℕ) → from ≤ length line → at ≡ past Blank line from → behind line from ≡ tokens_from 0 at (drop at line)
 behind-blanks line from at h e =
     behind-at line from h ∙ tokens_of-blanks from (drop from line)
@@ -176,11 +176,11 @@ shown-behind line from at t h e inside is some fits kind =
     ∙ ap (λ (x : Kind × ℕ). record { at = at; kind = x.0; bytes = take x.1 (drop at line) } ∷ behind line (at + x.1)) is
     ∙ sym (behind-token line from at h e inside (omega arith) (omega arith))
 
-pub place-shown : (line : List ℕ) (c : Lexeme) → IsPlace (shown line c) c.at
-place-shown line c = go (same_kind c.kind End) refl where
-  go : (b : Bool) → same_kind c.kind End ≡ b → IsPlace (shown line c) c.at
-  go true h = subst (λ (ts : List Token). IsPlace ts c.at) (sym (shown-end line c (kind_same c.kind End h))) tt
-  go false h = subst (λ (ts : List Token). IsPlace ts c.at) (sym (shown-token line c h)) refl
+pub offset-shown : (line : List ℕ) (c : Lexeme) → IsOffset (shown line c) c.at
+offset-shown line c = go (same_kind c.kind End) refl where
+  go : (b : Bool) → same_kind c.kind End ≡ b → IsOffset (shown line c) c.at
+  go true h = subst (λ (ts : List Token). IsOffset ts c.at) (sym (shown-end line c (kind_same c.kind End h))) tt
+  go false h = subst (λ (ts : List Token). IsOffset ts c.at) (sym (shown-token line c h)) refl
 
 pub next_kind-end : (line : List ℕ) (c : Lexeme) → same_kind c.kind End ≡ true → shown line c ≡ []
 next_kind-end line c h = shown-end line c (kind_same c.kind End h)

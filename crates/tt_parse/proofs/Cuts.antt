@@ -12,7 +12,7 @@ use Rattle.std.proofs.lemmas.Bool.Decides.{Decides-eqb}
 use Rattle.std.proofs.lemmas.List.{length-append, get_or-append-add}
 use Rattle.tt_parse.specs.declared.kind.Kind.{Kind}
 use Rattle.tt_parse.specs.declared.kind.Kind.TheVariants as k
-use Rattle.tt_parse.specs.declared.lex.Class.TheVariants as class
+use Rattle.tt_parse.specs.declared.tokens.Class.TheVariants as class
 use Rattle.tt_parse.specs.Tokens.{is_in, past, first, number_len, text_rest, single}
 use Rattle.tt_parse.specs.Spelling as spell
 use Rattle.tt_parse.specs.Spelling.{Piece}

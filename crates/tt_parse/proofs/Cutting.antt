@@ -5,7 +5,7 @@ use Rattle.std.proofs.lemmas.Str.{IsUtf8-append, IsUtf8-from_ascii, IsUtf8-nil}
 use Rattle.std.proofs.lemmas.Str.Ascii.{IsAscii-cons, IsAscii-nil}
 use Rattle.std.proofs.Math.Seq.{take-append_seam}
 use Rattle.tt_parse.specs.declared.kind.Kind.{Kind}
-use Rattle.tt_parse.specs.declared.lex.Class.TheVariants as class
+use Rattle.tt_parse.specs.declared.tokens.Class.TheVariants as class
 use Rattle.tt_parse.specs.Tokens.{Token, is_in, first, tokens_from}
 use Rattle.tt_parse.specs.Spelling.{Piece, is_unspaced, spaced, joined}
 use Rattle.tt_parse.proofs.Pieces.{May, Cut, CutAll, ShowsAll}

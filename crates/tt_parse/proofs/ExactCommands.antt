@@ -1,7 +1,7 @@
 -- Each reader is exact for its part of the grammar: commands that make tables and indexes, change rows and select them.
 use Rattle.std.proofs.Common.{◌≡◌, ℕ, Bool, true, false, List, [], ◌∷◌, None, Option, refl, ap}
 use Rattle.std.specs.Prelude.{codes}
-use Rattle.tt_value.specs.Names.{is_name, is_reserved}
+use Rattle.tt_value.specs.Ident.{is_name, is_reserved}
 use Rattle.tt_value.specs.declared.value.ColumnType.TheVariants as column_types
 use Rattle.tt_parse.specs.declared.command.SetSource.TheVariants as source
 use Rattle.tt_parse.specs.declared.command.Items.TheVariants as items

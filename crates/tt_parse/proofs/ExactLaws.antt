@@ -125,9 +125,9 @@ follows_many {X} {A} g test more last begins apart within u y (v ∷ vs) w e =
 pub follows_first : {X A B : Type 0} (g : Grammar X A) (k : A → Grammar X B) (test last : X → Bool) → Follows test g never → Follows test (g >>= k) last
 follows_first g k test last p u y b w e = rw (w.3, append_assoc w.0 w.1 y) (p w.0 (w.1 ++ y) w.2 w.4 (never_ends (w.1 ++ y)))
 
--- ---- there is one such place
+-- ---- there is one such cut
 
--- two ways to cut a list: in one place, or the one before the other
+-- two ways to cut a list: at one index, or the one before the other
 abbrev pub Cuts : {X : Type 0} → List X → List X → List X → List X → Type 0
 Cuts {X} f a h b = (s : X) × (m : List X) × (h ≡ f ++ s ∷ m) × (a ≡ s ∷ (m ++ b))
 
@@ -155,7 +155,7 @@ module _ {X A : Type 0} (g : Grammar X A) where
   cut_off f h a b c on end =
       (subst (λ (y : List X). IsEnd g f y) c.3 end) (goes_on_less f h c.1 c.0 c.2 on)
 
-  -- a list is off a grammar at one place
+  -- a list is off a grammar at one cut alone
   pub off_once : (ts a b : List X) → IsOff g ts a → IsOff g ts b → a ≡ b
   off_once ts a b p q = elim (cut_two p.0 q.0 a b (sym p.1 ∙ q.1)) [
     | inl same ↦ same

@@ -16,7 +16,7 @@ use Rattle.tt_parse.specs.Tokens.{Token, same_kind}
 use Rattle.tt_parse.specs.Script as g
 use Rattle.tt_parse.specs.Script.{G}
 use Rattle.tt_parse.specs.Symbols as symbol
-use Rattle.tt_parse.specs.Symbols.{folded, is_word, is_mark, the_word, the_mark, the_backup_kind, the_bare}
+use Rattle.tt_parse.specs.Symbols.{folded, is_word, is_mark, the_word, the_mark, the_backup_kind, the_bare, session_most}
 use Rattle.tt_parse.specs.Reading as r
 use Rattle.tt_parse.specs.Reading.{has_some}
 use Rattle.tt_parse.proofs.Cursors.{kind_same}
@@ -243,7 +243,7 @@ begins-command =
 
 pub exact-prefix : Exact g.prefix r.prefix never
 unfolding g.prefix r.prefix symbol.is_between symbol.units
-exact-prefix = step (exact-mark k.At) (λ _. exact-digits 1 64 refl)
+exact-prefix = step (exact-mark k.At) (λ _. exact-digits 1 session_most refl)
 
 pub exact-session : Exact g.session r.session (is_mark k.At)
 unfolding g.session r.session g.prefix

@@ -4,7 +4,7 @@ use Rattle.std.specs.Prelude.{codes, pos, negsuc}
 use Rattle.std.specs.List.{fold}
 use Rattle.std.specs.Str.{bytes_eq}
 use Rattle.std.proofs.lemmas.Bool.{and_parts}
-use Rattle.tt_value.specs.Names.{is_name, is_reserved}
+use Rattle.tt_value.specs.Ident.{is_name, is_reserved}
 use Rattle.tt_value.specs.declared.value.Value.{Value}
 use Rattle.tt_value.specs.declared.value.Value.TheVariants as v
 use Rattle.tt_parse.specs.declared.cond.Cond.{Cond}

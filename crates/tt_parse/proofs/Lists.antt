@@ -1,27 +1,27 @@
 -- What a loop over a list reads, one turn at a time.
-use Rattle.std.proofs.Common.{◌≡◌, ℕ, ◌<◌, Bool, true, false, List, [], ◌∷◌, ◌++◌, length, Ok, Err, refl, sym, ap, ◌∙◌, append_assoc, arith}
+use Rattle.std.proofs.Common.{◌≡◌, ℕ, zero, suc, ◌<◌, ◌≤◌, Bool, true, false, List, [], ◌∷◌, ◌++◌, length, Result, Ok, Err, ◌≢◌, refl, sym, ap, ◌∙◌, append_assoc, arith}
 use Rattle.std.proofs.lemmas.List.{length-append}
 use Rattle.tt_value.specs.declared.value.Value.{Value}
 use Rattle.tt_parse.specs.declared.command.ColumnText.{ColumnText}
 use Rattle.tt_parse.specs.declared.command.SetItem.{SetItem}
 use Rattle.tt_parse.specs.declared.command.Aggregate.{Aggregate}
 use Rattle.tt_parse.specs.declared.command.OrderItem.{OrderItem}
-use Rattle.tt_parse.specs.Grammar.{Grammar, ◌>>◌}
-use Rattle.tt_parse.specs.Reader.{Read, Reader, after, with_front, next_is}
-use Rattle.tt_parse.proofs.Exact.{Exact, Begins, never, Within, append-[]}
-use Rattle.tt_parse.proofs.ExactMany.{many-stops, many-goes_on, next-shown}
+use Rattle.tt_parse.specs.Grammar.{Grammar}
+use Rattle.tt_parse.specs.Reader.{Read, Reader, after, with_front, next_is, read_many_in, read_many}
+use Rattle.tt_parse.proofs.Exact.{Exact, Begins, append-[]}
+use Rattle.tt_parse.proofs.ExactMany.{next-shown}
 use Rattle.tt_parse.specs.declared.kind.Kind.TheVariants as k
 use Rattle.tt_parse.specs.Tokens.{Token}
-use Rattle.tt_parse.specs.Script as g
-use Rattle.tt_parse.specs.Script.{G}
 use Rattle.tt_parse.specs.Symbols.{is_mark}
 use Rattle.tt_parse.specs.Reading as r
-use Rattle.tt_parse.specs.Reading.{prepend}
+use Rattle.tt_parse.specs.Reading.{Reads, prepend}
+use Rattle.tt_parse.specs.declared.fault.ParseError.{ParseError}
+use Rattle.tt_parse.specs.declared.fault.ParseError.TheVariants.{NoMemory}
+use Rattle.std.specs.Result.{IsErrAnd}
 use Rattle.tt_parse.specs.Cursor.{past_next}
 use Rattle.tt_parse.proofs.Next.{mark_yes}
-use Rattle.tt_parse.proofs.TokenTests.{begins_mark, none_within}
-use Rattle.tt_parse.proofs.Exactness.{exact-name, exact-literal, exact-comma_item}
-use Rattle.tt_parse.proofs.ExactCommands.{exact-column, begins-column, exact-set_item, more_source, more_sets, comma_no_source, source_within, comma_within_sets, exact-aggregate, exact-order_item, more_direction, more_order_list, comma_no_direction, direction_within_list, comma_within_order}
+use Rattle.tt_parse.proofs.Exactness.{exact-name, exact-literal}
+use Rattle.tt_parse.proofs.ExactCommands.{exact-column, begins-column, exact-set_item, exact-aggregate, exact-order_item}
 
 -- what is read takes a token at least
 pub shrinks : {A : Type 0} {g : Grammar Token A} {r : Reader Token A} {more : Token → Bool} (test : Token → Bool) → Exact g r more → Begins g test →
@@ -35,125 +35,112 @@ prepend-front : {A : Type 0} (vs : List A) (a : A) (x : Read Token (List A)) →
 prepend-front {A} vs a (Ok x) = ap (λ (l : List A). Ok (l, x.1)) (sym (append_assoc vs (a ∷ []) x.0))
 prepend-front vs a (Err rest) = refl
 
-module _ {A : Type 0} (item : G A) (reader : r.R A) (more last : Token → Bool) (each : Exact item reader more)
-    (apart : (s : Token) → is_mark k.Comma s ≡ true → more s ≡ false) (within : Within more last) (stops : Within (is_mark k.Comma) last) where
-  items_on : (ts : List Token) → next_is (is_mark k.Comma) ts ≡ true → r.more_items reader ts ≡ after (r.comma_item reader ts) (λ a mid. with_front a (r.more_items reader mid))
-  unfolding r.more_items
-  items_on ts h =
-      many-goes_on (is_mark k.Comma) (g.mark k.Comma >> item) (r.comma_item reader) more last (exact-comma_item item reader more last each apart within stops) (begins_mark k.Comma _) apart within stops ts h
+-- The items so far, and those that are still to be read from here, are the whole. Each turn takes a token at least, so what is
+-- left of the count is enough.
+pub record IsUnderWay {A : Type 0} (test : Token → Bool) (reader : r.R A) (items : List A) (ts : List Token) (whole : Read Token (List A)) : Type 0 where
+  pub left : ℕ
+  pub enough : length ts ≤ left
+  pub rest : prepend items (read_many_in left test reader ts) ≡ whole
 
-  item-at : (ts : List Token) → next_is (is_mark k.Comma) ts ≡ true → r.comma_item reader ts ≡ reader (past_next ts)
-  unfolding r.comma_item
-  item-at ts h = rw (mark_yes k.Comma ts h) refl
+pub begins : {A : Type 0} (test : Token → Bool) (reader : r.R A) (items : List A) (ts : List Token) → IsUnderWay test reader items ts (prepend items (read_many test reader ts))
+begins test reader items ts = record { left = length ts; enough = omega arith; rest = refl }
 
-  items_go : (vs : List A) (ts mid : List Token) (a : A) → next_is (is_mark k.Comma) ts ≡ true → reader (past_next ts) ≡ Ok (a, mid) →
-      prepend vs (r.more_items reader ts) ≡ prepend (vs ++ a ∷ []) (r.more_items reader mid)
-  items_go vs ts mid a h e =
-      ap (λ (x : Read Token (List A)). prepend vs x) (items_on ts h ∙ ap (λ (x : Read Token A). after x (λ b rest. with_front b (r.more_items reader rest))) (item-at ts h ∙ e))
-      ∙ prepend-front vs a (r.more_items reader mid)
+turn : {A : Type 0} (test : Token → Bool) (reader : r.R A) (left : ℕ) (ts : List Token) (x : Read Token A) → next_is test ts ≡ true → reader ts ≡ x →
+    read_many_in (suc left) test reader ts ≡ after x (λ a mid. with_front a (read_many_in left test reader mid))
+unfolding read_many_in
+turn test reader left ts x h e = rw (h, e) refl
 
-  items_fail : (vs : List A) (ts rest : List Token) → next_is (is_mark k.Comma) ts ≡ true → reader (past_next ts) ≡ Err rest → prepend vs (r.more_items reader ts) ≡ Err rest
-  items_fail vs ts rest h e =
-      ap (λ (x : Read Token (List A)). prepend vs x) (items_on ts h ∙ ap (λ (x : Read Token A). after x (λ b rest. with_front b (r.more_items reader rest))) (item-at ts h ∙ e))
+pub goes_on : {A : Type 0} (test : Token → Bool) (reader : r.R A) (items : List A) (ts mid : List Token) (whole : Read Token (List A)) (a : A) → IsUnderWay test reader items ts whole →
+    next_is test ts ≡ true → reader ts ≡ Ok (a, mid) → length mid < length ts → IsUnderWay test reader (items ++ a ∷ []) mid whole
+goes_on {A} test reader items ts mid whole a under h e shrinks = by under.left under.enough under.rest
+  where
+    by : (left : ℕ) → length ts ≤ left → prepend items (read_many_in left test reader ts) ≡ whole → IsUnderWay test reader (items ++ a ∷ []) mid whole
+    by zero enough rest = absurd (omega (arith, shrinks))
+    by (suc left) enough rest = record {
+      left = left;
+      enough = omega (arith, shrinks);
+      rest =
+          sym (prepend-front items a (read_many_in left test reader mid))
+          ∙ ap (λ (x : Read Token (List A)). prepend items x) (sym (turn test reader left ts (Ok (a, mid)) h e)) ∙ rest;
+    }
 
-  items_stop : (vs : List A) (ts : List Token) → next_is (is_mark k.Comma) ts ≡ false → prepend vs (r.more_items reader ts) ≡ Ok (vs, ts)
-  unfolding r.more_items
-  items_stop vs ts h =
-      ap (λ (x : Read Token (List A)). prepend vs x)
-      (many-stops (is_mark k.Comma) (g.mark k.Comma >> item) (r.comma_item reader) more last (exact-comma_item item reader more last each apart within stops) (begins_mark k.Comma _) apart within stops ts h)
-      ∙ ap (λ (l : List A). Ok (l, ts)) (append-[] vs)
+pub fails : {A : Type 0} (test : Token → Bool) (reader : r.R A) (items : List A) (ts rest : List Token) (whole : Read Token (List A)) → IsUnderWay test reader items ts whole →
+    next_is test ts ≡ true → reader ts ≡ Err rest → whole ≡ Err rest
+fails {A} test reader items ts rest whole under h e = by under.left under.enough under.rest
+  where
+    by : (left : ℕ) → length ts ≤ left → prepend items (read_many_in left test reader ts) ≡ whole → whole ≡ Err rest
+    by zero enough is = absurd (omega (arith, next-shown test ts h))
+    by (suc left) enough is = sym is ∙ ap (λ (x : Read Token (List A)). prepend items x) (turn test reader left ts (Err rest) h e)
 
-  items_shrink : (ts mid : List Token) (a : A) → next_is (is_mark k.Comma) ts ≡ true → reader (past_next ts) ≡ Ok (a, mid) → length mid < length ts
-  items_shrink ts mid a h e = shrinks (is_mark k.Comma) (exact-comma_item item reader more last each apart within stops) (begins_mark k.Comma _) ts mid a (item-at ts h ∙ e)
+pub stops : {A : Type 0} (test : Token → Bool) (reader : r.R A) (items : List A) (ts : List Token) (whole : Read Token (List A)) → IsUnderWay test reader items ts whole →
+    next_is test ts ≡ false → whole ≡ Ok (items, ts)
+unfolding read_many_in
+stops {A} test reader items ts whole under h = by under.left under.rest
+  where
+    by : (left : ℕ) → prepend items (read_many_in left test reader ts) ≡ whole → whole ≡ Ok (items, ts)
+    by zero is = sym is ∙ ap (λ (l : List A). Ok (l, ts)) (append-[] items)
+    by (suc left) is = sym is ∙ rw h (ap (λ (l : List A). Ok (l, ts)) (append-[] items))
 
-pub names_go : (vs : List (List ℕ)) (ts mid : List Token) (a : (List ℕ)) → next_is (is_mark k.Comma) ts ≡ true → r.name (past_next ts) ≡ Ok (a, mid) →
-    prepend vs (r.more_items r.name ts) ≡ prepend (vs ++ a ∷ []) (r.more_items r.name mid)
-names_go = items_go g.name r.name never (is_mark k.Comma) exact-name (λ s h. refl) (none_within (is_mark k.Comma)) (λ s h. h)
+-- an error that is handed on tells that reading stopped, as it did before
+pub handed_on : {A : Type 0} (outcome : Read Token (List A)) (answer : Result (List A) ParseError) (error : ParseError) (new : List Token) → IsErrAnd answer (λ e. e ≡ error) →
+    (error ≢ NoMemory → outcome ≡ Err new) → Reads outcome answer new
+handed_on outcome (Ok items) error new same stuck = absurd same
+handed_on outcome (Err e) error new same stuck = λ other. stuck (λ (none : error ≡ NoMemory). other (same ∙ none))
 
-pub names_fail : (vs : List (List ℕ)) (ts rest : List Token) → next_is (is_mark k.Comma) ts ≡ true → r.name (past_next ts) ≡ Err rest → prepend vs (r.more_items r.name ts) ≡ Err rest
-names_fail = items_fail g.name r.name never (is_mark k.Comma) exact-name (λ s h. refl) (none_within (is_mark k.Comma)) (λ s h. h)
+-- ---- items with a comma between two
 
-pub names_stop : (vs : List (List ℕ)) (ts : List Token) → next_is (is_mark k.Comma) ts ≡ false → prepend vs (r.more_items r.name ts) ≡ Ok (vs, ts)
-names_stop = items_stop g.name r.name never (is_mark k.Comma) exact-name (λ s h. refl) (none_within (is_mark k.Comma)) (λ s h. h)
+abbrev pub ItemsUnderWay : {A : Type 0} → r.R A → List A → List Token → Read Token (List A) → Type 0
+ItemsUnderWay reader items ts whole = IsUnderWay (is_mark k.Comma) (r.comma_item reader) items ts whole
 
-pub names_shrink : (ts mid : List Token) (a : (List ℕ)) → next_is (is_mark k.Comma) ts ≡ true → r.name (past_next ts) ≡ Ok (a, mid) → length mid < length ts
-names_shrink = items_shrink g.name r.name never (is_mark k.Comma) exact-name (λ s h. refl) (none_within (is_mark k.Comma)) (λ s h. h)
+pub items_begin : {A : Type 0} (reader : r.R A) (items : List A) (ts : List Token) → ItemsUnderWay reader items ts (prepend items (r.more_items reader ts))
+unfolding r.more_items
+items_begin reader items ts = begins (is_mark k.Comma) (r.comma_item reader) items ts
 
-pub literals_go : (vs : List Value) (ts mid : List Token) (a : Value) → next_is (is_mark k.Comma) ts ≡ true → r.literal (past_next ts) ≡ Ok (a, mid) →
-    prepend vs (r.more_items r.literal ts) ≡ prepend (vs ++ a ∷ []) (r.more_items r.literal mid)
-literals_go = items_go g.literal r.literal never (is_mark k.Comma) exact-literal (λ s h. refl) (none_within (is_mark k.Comma)) (λ s h. h)
+item-at : {A : Type 0} (reader : r.R A) (ts : List Token) → next_is (is_mark k.Comma) ts ≡ true → r.comma_item reader ts ≡ reader (past_next ts)
+unfolding r.comma_item
+item-at reader ts h = rw (mark_yes k.Comma ts h) refl
 
-pub literals_fail : (vs : List Value) (ts rest : List Token) → next_is (is_mark k.Comma) ts ≡ true → r.literal (past_next ts) ≡ Err rest → prepend vs (r.more_items r.literal ts) ≡ Err rest
-literals_fail = items_fail g.literal r.literal never (is_mark k.Comma) exact-literal (λ s h. refl) (none_within (is_mark k.Comma)) (λ s h. h)
+pub shorter : (ts : List Token) → next_is (is_mark k.Comma) ts ≡ true → length (past_next ts) < length ts
+shorter [] h = absurd cc
+shorter (t ∷ ts) h = omega arith
 
-pub literals_stop : (vs : List Value) (ts : List Token) → next_is (is_mark k.Comma) ts ≡ false → prepend vs (r.more_items r.literal ts) ≡ Ok (vs, ts)
-literals_stop = items_stop g.literal r.literal never (is_mark k.Comma) exact-literal (λ s h. refl) (none_within (is_mark k.Comma)) (λ s h. h)
+pub items_go_on : {A : Type 0} (reader : r.R A) (items : List A) (ts mid : List Token) (whole : Read Token (List A)) (a : A) → ItemsUnderWay reader items ts whole →
+    next_is (is_mark k.Comma) ts ≡ true → reader (past_next ts) ≡ Ok (a, mid) → length mid ≤ length (past_next ts) → ItemsUnderWay reader (items ++ a ∷ []) mid whole
+items_go_on reader items ts mid whole a under h e within =
+    goes_on (is_mark k.Comma) (r.comma_item reader) items ts mid whole a under h (item-at reader ts h ∙ e) (omega (arith, shorter ts h))
 
-pub literals_shrink : (ts mid : List Token) (a : Value) → next_is (is_mark k.Comma) ts ≡ true → r.literal (past_next ts) ≡ Ok (a, mid) → length mid < length ts
-literals_shrink = items_shrink g.literal r.literal never (is_mark k.Comma) exact-literal (λ s h. refl) (none_within (is_mark k.Comma)) (λ s h. h)
+pub items_fail : {A : Type 0} (reader : r.R A) (items : List A) (ts rest : List Token) (whole : Read Token (List A)) → ItemsUnderWay reader items ts whole →
+    next_is (is_mark k.Comma) ts ≡ true → reader (past_next ts) ≡ Err rest → whole ≡ Err rest
+items_fail reader items ts rest whole under h e = fails (is_mark k.Comma) (r.comma_item reader) items ts rest whole under h (item-at reader ts h ∙ e)
 
-pub sets_go : (vs : List SetItem) (ts mid : List Token) (a : SetItem) → next_is (is_mark k.Comma) ts ≡ true → r.set_item (past_next ts) ≡ Ok (a, mid) →
-    prepend vs (r.more_items r.set_item ts) ≡ prepend (vs ++ a ∷ []) (r.more_items r.set_item mid)
-sets_go = items_go g.set_item r.set_item more_source more_sets exact-set_item comma_no_source source_within comma_within_sets
+-- no more tokens stand behind what is read than stood before it
+not_longer : {A : Type 0} {g : Grammar Token A} {reader : Reader Token A} {more : Token → Bool} → Exact g reader more →
+    (ts rest : List Token) (a : A) → reader ts ≡ Ok (a, rest) → length rest ≤ length ts
+not_longer exact ts rest a e = let f = exact.got ts a rest e in omega (arith, ap length f.whole, length-append f.front rest)
 
-pub sets_fail : (vs : List SetItem) (ts rest : List Token) → next_is (is_mark k.Comma) ts ≡ true → r.set_item (past_next ts) ≡ Err rest → prepend vs (r.more_items r.set_item ts) ≡ Err rest
-sets_fail = items_fail g.set_item r.set_item more_source more_sets exact-set_item comma_no_source source_within comma_within_sets
+pub name_within : (ts rest : List Token) (a : List ℕ) → r.name ts ≡ Ok (a, rest) → length rest ≤ length ts
+name_within = not_longer exact-name
 
-pub sets_stop : (vs : List SetItem) (ts : List Token) → next_is (is_mark k.Comma) ts ≡ false → prepend vs (r.more_items r.set_item ts) ≡ Ok (vs, ts)
-sets_stop = items_stop g.set_item r.set_item more_source more_sets exact-set_item comma_no_source source_within comma_within_sets
+pub literal_within : (ts rest : List Token) (a : Value) → r.literal ts ≡ Ok (a, rest) → length rest ≤ length ts
+literal_within = not_longer exact-literal
 
-pub sets_shrink : (ts mid : List Token) (a : SetItem) → next_is (is_mark k.Comma) ts ≡ true → r.set_item (past_next ts) ≡ Ok (a, mid) → length mid < length ts
-sets_shrink = items_shrink g.set_item r.set_item more_source more_sets exact-set_item comma_no_source source_within comma_within_sets
+pub set_item_within : (ts rest : List Token) (a : SetItem) → r.set_item ts ≡ Ok (a, rest) → length rest ≤ length ts
+set_item_within = not_longer exact-set_item
 
-pub aggregates_go : (vs : List Aggregate) (ts mid : List Token) (a : Aggregate) → next_is (is_mark k.Comma) ts ≡ true → r.aggregate (past_next ts) ≡ Ok (a, mid) →
-    prepend vs (r.more_items r.aggregate ts) ≡ prepend (vs ++ a ∷ []) (r.more_items r.aggregate mid)
-aggregates_go = items_go g.aggregate r.aggregate never (is_mark k.Comma) exact-aggregate (λ s h. refl) (none_within (is_mark k.Comma)) (λ s h. h)
+pub aggregate_within : (ts rest : List Token) (a : Aggregate) → r.aggregate ts ≡ Ok (a, rest) → length rest ≤ length ts
+aggregate_within = not_longer exact-aggregate
 
-pub aggregates_fail : (vs : List Aggregate) (ts rest : List Token) → next_is (is_mark k.Comma) ts ≡ true → r.aggregate (past_next ts) ≡ Err rest → prepend vs (r.more_items r.aggregate ts) ≡ Err rest
-aggregates_fail = items_fail g.aggregate r.aggregate never (is_mark k.Comma) exact-aggregate (λ s h. refl) (none_within (is_mark k.Comma)) (λ s h. h)
+pub order_item_within : (ts rest : List Token) (a : OrderItem) → r.order_item ts ≡ Ok (a, rest) → length rest ≤ length ts
+order_item_within = not_longer exact-order_item
 
-pub aggregates_stop : (vs : List Aggregate) (ts : List Token) → next_is (is_mark k.Comma) ts ≡ false → prepend vs (r.more_items r.aggregate ts) ≡ Ok (vs, ts)
-aggregates_stop = items_stop g.aggregate r.aggregate never (is_mark k.Comma) exact-aggregate (λ s h. refl) (none_within (is_mark k.Comma)) (λ s h. h)
+-- ---- columns, each with a comma behind it
 
-pub aggregates_shrink : (ts mid : List Token) (a : Aggregate) → next_is (is_mark k.Comma) ts ≡ true → r.aggregate (past_next ts) ≡ Ok (a, mid) → length mid < length ts
-aggregates_shrink = items_shrink g.aggregate r.aggregate never (is_mark k.Comma) exact-aggregate (λ s h. refl) (none_within (is_mark k.Comma)) (λ s h. h)
+abbrev pub ColumnsUnderWay : List ColumnText → List Token → Read Token (List ColumnText) → Type 0
+ColumnsUnderWay columns ts whole = IsUnderWay r.is_column r.column columns ts whole
 
-pub order_go : (vs : List OrderItem) (ts mid : List Token) (a : OrderItem) → next_is (is_mark k.Comma) ts ≡ true → r.order_item (past_next ts) ≡ Ok (a, mid) →
-    prepend vs (r.more_items r.order_item ts) ≡ prepend (vs ++ a ∷ []) (r.more_items r.order_item mid)
-order_go = items_go g.order_item r.order_item more_direction more_order_list exact-order_item comma_no_direction direction_within_list comma_within_order
-
-pub order_fail : (vs : List OrderItem) (ts rest : List Token) → next_is (is_mark k.Comma) ts ≡ true → r.order_item (past_next ts) ≡ Err rest → prepend vs (r.more_items r.order_item ts) ≡ Err rest
-order_fail = items_fail g.order_item r.order_item more_direction more_order_list exact-order_item comma_no_direction direction_within_list comma_within_order
-
-pub order_stop : (vs : List OrderItem) (ts : List Token) → next_is (is_mark k.Comma) ts ≡ false → prepend vs (r.more_items r.order_item ts) ≡ Ok (vs, ts)
-order_stop = items_stop g.order_item r.order_item more_direction more_order_list exact-order_item comma_no_direction direction_within_list comma_within_order
-
-pub order_shrink : (ts mid : List Token) (a : OrderItem) → next_is (is_mark k.Comma) ts ≡ true → r.order_item (past_next ts) ≡ Ok (a, mid) → length mid < length ts
-order_shrink = items_shrink g.order_item r.order_item more_direction more_order_list exact-order_item comma_no_direction direction_within_list comma_within_order
-
--- ---- columns
-
-columns_on : (ts : List Token) → next_is r.is_column ts ≡ true → r.more_columns ts ≡ after (r.column ts) (λ a mid. with_front a (r.more_columns mid))
+pub columns_begin : (columns : List ColumnText) (ts : List Token) → ColumnsUnderWay columns ts (prepend columns (r.more_columns ts))
 unfolding r.more_columns
-columns_on ts h =
-    many-goes_on r.is_column g.column r.column never r.is_column exact-column begins-column (λ s h. refl) (none_within r.is_column) (λ s h. h) ts h
-
-pub columns_go : (vs : List ColumnText) (ts mid : List Token) (a : ColumnText) → next_is r.is_column ts ≡ true → r.column ts ≡ Ok (a, mid) →
-    prepend vs (r.more_columns ts) ≡ prepend (vs ++ a ∷ []) (r.more_columns mid)
-columns_go vs ts mid a h e =
-    ap (λ (x : Read Token (List ColumnText)). prepend vs x) (columns_on ts h ∙ ap (λ (x : Read Token ColumnText). after x (λ b rest. with_front b (r.more_columns rest))) e)
-    ∙ prepend-front vs a (r.more_columns mid)
-
-pub columns_fail : (vs : List ColumnText) (ts rest : List Token) → next_is r.is_column ts ≡ true → r.column ts ≡ Err rest → prepend vs (r.more_columns ts) ≡ Err rest
-columns_fail vs ts rest h e =
-    ap (λ (x : Read Token (List ColumnText)). prepend vs x) (columns_on ts h ∙ ap (λ (x : Read Token ColumnText). after x (λ b rest. with_front b (r.more_columns rest))) e)
-
-pub columns_stop : (vs : List ColumnText) (ts : List Token) → next_is r.is_column ts ≡ false → prepend vs (r.more_columns ts) ≡ Ok (vs, ts)
-unfolding r.more_columns
-columns_stop vs ts h =
-    ap (λ (x : Read Token (List ColumnText)). prepend vs x)
-    (many-stops r.is_column g.column r.column never r.is_column exact-column begins-column (λ s h. refl) (none_within r.is_column) (λ s h. h) ts h)
-    ∙ ap (λ (l : List ColumnText). Ok (l, ts)) (append-[] vs)
+columns_begin columns ts = begins r.is_column r.column columns ts
 
 pub columns_shrink : (ts mid : List Token) (a : ColumnText) → r.column ts ≡ Ok (a, mid) → length mid < length ts
 columns_shrink ts mid a e = shrinks r.is_column exact-column begins-column ts mid a e

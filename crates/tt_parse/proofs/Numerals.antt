@@ -6,8 +6,8 @@ use Rattle.std.proofs.lemmas.Fmt.{decimal_by_steps}
 use Rattle.std.proofs.lemmas.List.Sums.{fold-append}
 use Rattle.std.proofs.lemmas.List.{length-append}
 use Rattle.std.proofs.lemmas.Bool.{and_parts}
-use Rattle.tt_parse.specs.declared.lex.Class.{Class}
-use Rattle.tt_parse.specs.declared.lex.Class.TheVariants as class
+use Rattle.tt_parse.specs.declared.tokens.Class.{Class}
+use Rattle.tt_parse.specs.declared.tokens.Class.TheVariants as class
 use Rattle.tt_parse.specs.Tokens.{is_in, past}
 use Rattle.tt_parse.specs.Symbols.{one_digit_more, units}
 use Rattle.tt_parse.specs.Spelling.{dotted}

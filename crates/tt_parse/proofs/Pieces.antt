@@ -2,7 +2,7 @@
 use Rattle.std.proofs.Common.{◌≡◌, ℕ, ◌<◌, ◌≤◌, Bool, true, false, ◌||◌, List, [], ◌∷◌, ◌++◌, length, Option, Some, refl, sym, ap, subst, ◌∙◌, append_assoc, inl, inr}
 use Rattle.std.specs.Prelude.{◌==◌, IsUtf8}
 use Rattle.tt_parse.specs.declared.kind.Kind.TheVariants as k
-use Rattle.tt_parse.specs.declared.lex.Class.TheVariants as class
+use Rattle.tt_parse.specs.declared.tokens.Class.TheVariants as class
 use Rattle.tt_parse.specs.Tokens.{Token, is_in, first}
 use Rattle.tt_parse.specs.Grammar.{nothing, one, ◌>>=◌, ◌or_else◌, many}
 use Rattle.tt_parse.specs.Script.{G}

@@ -2,7 +2,7 @@
 use Rattle.std.proofs.Common.{◌≡◌, ℕ, Bool, true, false, not, List, [], ◌∷◌, ◌++◌, refl, sym, ◌∙◌, append_assoc}
 use Rattle.std.specs.Prelude.{if◌then◌else◌}
 use Rattle.std.proofs.lemmas.List.Sums.{fold-append}
-use Rattle.tt_parse.specs.Written.{Written, put, put_all, empty}
+use Rattle.tt_parse.specs.Printer.{Written, put, put_all, empty}
 use Rattle.tt_parse.specs.Spelling.{Piece, spaced, joined}
 use Rattle.tt_parse.proofs.Exact.{append-[]}
 

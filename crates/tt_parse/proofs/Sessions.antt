@@ -4,16 +4,16 @@ use Rattle.tt_parse.specs.Reader.{Read, next_is}
 use Rattle.tt_parse.proofs.Exact.{which, if_true, if_false, next-append, never_ends}
 use Rattle.tt_parse.specs.declared.kind.Kind.TheVariants as k
 use Rattle.tt_parse.specs.Tokens.{Token}
-use Rattle.tt_parse.specs.Symbols.{is_mark}
+use Rattle.tt_parse.specs.Symbols.{is_mark, session_most}
 use Rattle.tt_parse.specs.Script as g
 use Rattle.tt_parse.specs.Reading as r
-use Rattle.tt_parse.specs.Parsing.{IsSession, session_of}
+use Rattle.tt_parse.specs.Parse.{IsSession, session_of}
 use Rattle.tt_parse.proofs.TokenTests.{begins_mark}
 use Rattle.tt_parse.proofs.ExactLine.{exact-prefix}
 
 prefix_begins : (front behind : List Token) (n : ℕ) → g.prefix front n → next_is (is_mark k.At) (front ++ behind) ≡ true
 unfolding g.prefix
-prefix_begins front behind n f = next-append (is_mark k.At) front behind (begins_mark k.At (λ _. g.digits 1 64) front n f)
+prefix_begins front behind n f = next-append (is_mark k.At) front behind (begins_mark k.At (λ _. g.digits 1 session_most) front n f)
 
 prefix_session : (ts : List Token) (x : Read Token ℕ) → r.prefix ts ≡ x → IsSession ts (session_of x)
 prefix_session ts (Ok x) e =

@@ -6,9 +6,9 @@ use Rattle.std.proofs.lemmas.List.{drop-drop, length-drop, get_or-drop}
 use Rattle.std.proofs.lemmas.List.Sums.{prefix_len_stops}
 use Rattle.std.proofs.Math.Seq.{drop-cons}
 use Rattle.std.proofs.Math.ListN.{drop_of_length-le}
-use Rattle.tt_parse.specs.declared.lex.Class.TheVariants.{Blank}
+use Rattle.tt_parse.specs.declared.tokens.Class.TheVariants.{Blank}
 use Rattle.tt_parse.specs.Tokens.{is_in, past}
-use Rattle.tt_parse.specs.Parsing.{is_comment, is_skipped}
+use Rattle.tt_parse.specs.Parse.{is_comment, is_skipped}
 
 abbrev pub others : List ℕ → List ℕ
 others z = filter (λ b. not (is_in Blank b)) z

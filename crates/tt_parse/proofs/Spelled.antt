@@ -7,7 +7,7 @@ use Rattle.std.specs.Str.{bytes_eq}
 use Rattle.std.specs.Fmt.{decimal}
 use Rattle.std.proofs.lemmas.Bool.{and_parts, leb-true, le-leb}
 use Rattle.std.proofs.lemmas.Bool.Decides.{Decides-eqb}
-use Rattle.tt_value.specs.Names.{is_name, is_letter, is_digit, is_reserved}
+use Rattle.tt_value.specs.Ident.{is_name, is_letter, is_digit, is_reserved}
 use Rattle.tt_value.specs.declared.value.Value.{Value}
 use Rattle.tt_value.specs.declared.value.Value.TheVariants as v
 use Rattle.tt_parse.specs.declared.kind.Kind.TheVariants as k
@@ -22,7 +22,7 @@ use Rattle.tt_parse.specs.Spelling.{Piece}
 use Rattle.tt_parse.proofs.Pieces.{Fine, FineToken, spells_then, spells_left, spells_right, fine_back, Cut, Spells, Respells, After, spells_one, respells, after_nothing, after_then, respells_many, rows}
 use Rattle.tt_parse.proofs.Cuts.{cut_word, is_like_word, is_ascii_word, cut_digits, cut_dotted, cut_text, cut_comma, cut_sign, rest_doubled}
 use Rattle.tt_parse.proofs.Numerals.{decimal_numeral, dotted_read, are_digits, past_all}
-use Rattle.tt_parse.specs.declared.lex.Class.TheVariants as class
+use Rattle.tt_parse.specs.declared.tokens.Class.TheVariants as class
 use Rattle.std.proofs.lemmas.List.{length-append}
 use Rattle.std.proofs.Math.Seq.{take-append_seam}
 use Rattle.tt_parse.proofs.Exact.{append-[]}

@@ -25,7 +25,7 @@ use Rattle.tt_parse.proofs.Exact.{append-[]}
 use Rattle.tt_parse.proofs.Pieces.{Shows, spells_left, spells_right, spells_nothing, Cut, Spells, Respells, Behind, spells_one, respells_many, respelled, rows, next, done, either}
 use Rattle.tt_parse.proofs.Cuts.{cut_open, cut_close, cut_comma, cut_star, cut_equal, cut_plus, cut_minus, cut_word, cut_digits, is_like_word}
 use Rattle.tt_parse.proofs.Spelled.{respell_word, respell_mark, respell_name, respell_literal, respell_digits, respell_list, respell_unsigned, respell_comma_item, rows_more}
-use Rattle.tt_parse.proofs.SpelledConditions.{respell_filter, respell_optional, if_there}
+use Rattle.tt_parse.proofs.SpelledConditions.{respell_filter, respell_optional}
 use Rattle.tt_parse.proofs.TokenTests.{kind_is}
 
 next_word : {B : Type 0} {front : List Piece} {rest : Unit {0} → G B} {all : B → List Piece} (w bytes : List ℕ) → is_like_word bytes ≡ true → bytes_eq (map to_ascii_lowercase bytes) w ≡ true →
@@ -110,12 +110,8 @@ respell_create_table =
     next_word (codes "primary") (codes "primary") refl refl (next_word (codes "key") (codes "key") refl refl (next spell.names respell_names (λ key.
     next_mark spell.close_mark cut_close (done (commands.CreateTable n (first ∷ more) key) (table_pieces n first more key))))))))))
 
-unique_is : (b : Bool) → if_there (codes "unique") b ≡ spell.unique b
-unique_is true = refl
-unique_is false = refl
-
 index_pieces : (b : Bool) (n t : List ℕ) (cols : List (List ℕ)) →
-    (((((spell.word (codes "create") ∷ if_there (codes "unique") b) ++ spell.word (codes "index") ∷ []) ++ spell.name n) ++ spell.word (codes "on") ∷ []) ++ spell.name t) ++ spell.names cols
+    (((((spell.word (codes "create") ∷ spell.if_there (spell.word (codes "unique")) b) ++ spell.word (codes "index") ∷ []) ++ spell.name n) ++ spell.word (codes "on") ∷ []) ++ spell.name t) ++ spell.names cols
     ≡ spell.pieces (commands.CreateIndex n t cols b)
 unfolding spell.pieces
 index_pieces true n t cols = refl
@@ -124,7 +120,7 @@ index_pieces false n t cols = refl
 respell_create_index : Behind (spell.word (codes "create") ∷ []) g.create_index spell.pieces
 unfolding g.create_index
 respell_create_index =
-    next (if_there (codes "unique")) (respell_optional (codes "unique") refl (respell_word (codes "unique") (codes "unique") refl refl)) (λ b.
+    next (spell.if_there (spell.word (codes "unique"))) (respell_optional (codes "unique") refl (respell_word (codes "unique") (codes "unique") refl refl)) (λ b.
     next_word (codes "index") (codes "index") refl refl (next_name (λ n. next_word (codes "on") (codes "on") refl refl (next_name (λ t.
     next spell.names respell_names (λ cols. done (commands.CreateIndex n t cols b) (index_pieces b n t cols)))))))
 
@@ -191,14 +187,14 @@ unfolding the_direction is_word
 spells_down =
     spells_one the_direction (spell.word (codes "desc")) true (cut_word (codes "desc") refl) (λ t s. rw (s.0, s.1, kind_is k.Word k.Word refl) refl)
 
-respell_direction : Respells (one the_direction or_else nothing false) spell.direction
+respell_direction : Respells (one the_direction or_else nothing false) (spell.if_there (spell.word (codes "desc")))
 respell_direction ts true fine (inl h) = spells_left spells_down
 respell_direction ts false fine h = spells_right (spells_nothing false)
 respell_direction ts true fine (inr h) = absurd (let e : true ≡ false = h.1 in cc)
 
 respell_order_item : Respells g.order_item spell.order_item
 unfolding g.order_item
-respell_order_item = respelled (next_name (λ column. next spell.direction respell_direction (λ down. done (record { column = column; down = down }) refl)))
+respell_order_item = respelled (next_name (λ column. next (spell.if_there (spell.word (codes "desc"))) respell_direction (λ down. done (record { column = column; down = down }) refl)))
 
 abbrev order_front : List Piece
 order_front = spell.word (codes "order") ∷ spell.word (codes "by") ∷ []

@@ -9,11 +9,11 @@ use Rattle.std.proofs.lemmas.List.{length-take-le}
 use Rattle.tt_parse.specs.declared.command.Command.{Command}
 use Rattle.tt_parse.specs.declared.kind.Kind.{Kind}
 use Rattle.tt_parse.specs.declared.kind.Kind.TheVariants as k
-use Rattle.tt_parse.specs.declared.lex.Class.TheVariants as class
+use Rattle.tt_parse.specs.declared.tokens.Class.TheVariants as class
 use Rattle.tt_parse.specs.Tokens.{same_kind, Token, is_in, past, number_len, text_rest, first, less, greater, single, tokens_from, tokens_of}
 use Rattle.tt_parse.specs.Script as g
 use Rattle.tt_parse.specs.Symbols.{undoubled, inside, has_dot, decimals, whole_len}
-use Rattle.tt_parse.specs.Parsing.{IsGiven}
+use Rattle.tt_parse.specs.Parse.{IsGiven}
 use Rattle.tt_parse.specs.Spelling.{pieces, spelling, joined}
 use Rattle.tt_parse.proofs.Exact.{append-[]}
 use Rattle.tt_parse.proofs.TokenTests.{kind_is}

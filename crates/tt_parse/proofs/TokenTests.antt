@@ -6,7 +6,7 @@ use Rattle.std.proofs.lemmas.Bool.{and_parts}
 use Rattle.std.proofs.lemmas.Slice.Eq.{bytes_eq-Decides}
 use denote.Enum.Bare.{true_same}
 use Rattle.tt_parse.specs.contracts.kind.Kind.{the_type}
-use Rattle.tt_value.specs.Names.{is_name}
+use Rattle.tt_value.specs.Ident.{is_name}
 use Rattle.tt_parse.specs.declared.kind.Kind.{Kind}
 use Rattle.tt_parse.specs.declared.kind.Kind.TheVariants as k
 use Rattle.tt_parse.specs.Grammar.{one, ◌>>=◌}

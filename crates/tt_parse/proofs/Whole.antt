@@ -1,4 +1,4 @@
--- A line is read whole, or off the grammar at a place.
+-- A line is read whole, or off the grammar at an offset.
 use Rattle.std.proofs.Common.{◌≡◌, ℕ, List, [], ◌∷◌, Result, Ok, Err, refl, sym, ap, ◌∙◌, subst, length, ◌≢◌}
 use Rattle.tt_parse.specs.declared.command.Command.{Command}
 use Rattle.tt_parse.specs.Grammar.{IsOff}
@@ -7,11 +7,11 @@ use Rattle.tt_parse.proofs.ExactLaws.{all_read, read_all, stuck_off, behind_off,
 use Rattle.tt_value.specs.declared.refusal.Refusal.{Refusal}
 use Rattle.tt_value.specs.declared.refusal.Refusal.TheVariants.{Syntax, NoMemory}
 use Rattle.tt_parse.specs.Tokens.{Token, tokens_of}
-use Rattle.tt_parse.specs.Cursor.{place_in}
+use Rattle.tt_parse.specs.Cursor.{offset_in}
 use Rattle.tt_parse.specs.Script as g
 use Rattle.tt_parse.specs.Reading as r
 use Rattle.std.specs.Prelude.{IfOk, IsUtf8}
-use Rattle.tt_parse.specs.Parsing.{Ends, WentTo, commands, session_of, Says, IsGiven}
+use Rattle.tt_parse.specs.Parse.{Ends, WentTo, commands, session_of, Says, IsGiven}
 use Rattle.tt_parse.proofs.ExactLine.{exact-line, more_line}
 
 commands-body : (n : ℕ) (x : Read Token Command) → commands (after x (λ command rest. Ok ((n, command), rest))) ≡ x
@@ -49,12 +49,12 @@ unfolding r.line
 line_whole ts command e = session_whole (r.session ts) command e
 
 line_off_at : (ts : List Token) (length : ℕ) (at : ℕ) (x : Read Token (ℕ × Command)) → r.line ts ≡ x → WentTo (commands x) length (Syntax at) →
-    (behind : List Token) × IsOff g.line ts behind × (at ≡ place_in length behind)
+    (behind : List Token) × IsOff g.line ts behind × (at ≡ offset_in length behind)
 line_off_at ts length at (Ok x) e w = go x.1 refl where
-  go : (rest : List Token) → x.1 ≡ rest → (behind : List Token) × IsOff g.line ts behind × (at ≡ place_in length behind)
+  go : (rest : List Token) → x.1 ≡ rest → (behind : List Token) × IsOff g.line ts behind × (at ≡ offset_in length behind)
   go [] h = absurd (w.0 h)
   go (s ∷ rest) h =
-      (s ∷ rest, behind_off g.line r.line more_line exact-line ts x.0 s rest (e ∙ ap (λ (t : List Token). Ok (x.0, t)) h), w.1 ∙ ap (λ (t : List Token). place_in length t) h)
+      (s ∷ rest, behind_off g.line r.line more_line exact-line ts x.0 s rest (e ∙ ap (λ (t : List Token). Ok (x.0, t)) h), w.1 ∙ ap (λ (t : List Token). offset_in length t) h)
 line_off_at ts length at (Err rest) e w = (rest, stuck_off g.line r.line more_line exact-line ts rest e, w)
 
 pub line_says : (line : List ℕ) (session : ℕ) (what : Result Command Refusal) → session ≡ session_of (r.session (tokens_of line)) →
@@ -87,12 +87,12 @@ line_only line session what s e n command f given =
       same_command command command (commands (r.line (tokens_of line))) c (length line) what e given,
     )
 
--- a line off the grammar is refused at its place, unless memory is wanting
+-- a line off the grammar is refused at its offset, unless memory is wanting
 pub line_off_only : (line : List ℕ) (session : ℕ) (what : Result Command Refusal) → Says line session what →
-    (behind : List Token) → IsOff g.line (tokens_of line) behind → what ≢ Err NoMemory → what ≡ Err (Syntax (place_in (length line) behind))
+    (behind : List Token) → IsOff g.line (tokens_of line) behind → what ≢ Err NoMemory → what ≡ Err (Syntax (offset_in (length line) behind))
 line_off_only line session (Ok command) says behind off given = absurd (in_not_off g.line (tokens_of line) behind (session, command) says off)
 line_off_only line session (Err (Syntax at)) says behind off given =
-    ap (λ (n : ℕ). Err (Syntax n)) (says.2 ∙ ap (λ (ts : List Token). place_in (length line) ts) (off_once g.line (tokens_of line) says.0 behind says.1 off))
+    ap (λ (n : ℕ). Err (Syntax n)) (says.2 ∙ ap (λ (ts : List Token). offset_in (length line) ts) (off_once g.line (tokens_of line) says.0 behind says.1 off))
 line_off_only line session (Err NoMemory) says behind off given = absurd (given refl)
 line_off_only line session (Err _) says behind off given = absurd says
 

@@ -1,5 +1,5 @@
--- What a cursor shows of a line from a place on.
-use Rattle.std.specs.Prelude.{◌≡◌, ℕ, ◌+◌, ◌-◌, ◌<◌, false, min, slice_index, List, [], ◌∷◌, length, take, drop, Option, None, if◌then◌else◌}
+-- What a cursor shows of a line from an offset on.
+use Rattle.std.specs.Prelude.{◌≡◌, ℕ, ◌+◌, ◌-◌, ◌^◌, ◌<◌, false, min, slice_index, List, [], ◌∷◌, length, take, drop, Option, None, if◌then◌else◌}
 use Rattle.tt_parse.specs.declared.kind.Kind.{Kind}
 use Rattle.tt_parse.specs.declared.kind.Kind.TheVariants.{End}
 use Rattle.tt_parse.specs.declared.cursor.Lexeme.{Lexeme}
@@ -36,12 +36,16 @@ abbrev pub next_found : {A : Type 0} → (Token → Option A) → List Token →
 next_found test [] = None
 next_found test (s ∷ ts) = test s
 
--- the place of the next token, if there is one
-abbrev pub IsPlace : List Token → ℕ → Type 0
-IsPlace [] at = Unit {0}
-IsPlace (s ∷ ts) at = at ≡ s.at
+-- the offset of the next token, if there is one
+abbrev pub IsOffset : List Token → ℕ → Type 0
+IsOffset [] at = Unit {0}
+IsOffset (s ∷ ts) at = at ≡ s.at
 
--- the place of the next token, or else the line's length
-abbrev pub place_in : ℕ → List Token → ℕ
-place_in length [] = length
-place_in length (s ∷ ts) = s.at
+-- an offset as a refusal tells it: a number of 32 bits, the greatest of them where it is past that
+abbrev pub told_offset : ℕ → ℕ
+told_offset at = min at (2 ^ 32 - 1)
+
+-- the offset of the next token, or else the line's length, as a refusal tells it
+abbrev pub offset_in : ℕ → List Token → ℕ
+offset_in length [] = told_offset length
+offset_in length (s ∷ ts) = told_offset s.at

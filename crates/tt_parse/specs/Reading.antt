@@ -28,7 +28,7 @@ use Rattle.tt_parse.specs.declared.kind.Kind.TheVariants as k
 use Rattle.tt_parse.specs.declared.fault.ParseError.{ParseError}
 use Rattle.tt_parse.specs.declared.fault.ParseError.TheVariants.{NoMemory}
 use Rattle.tt_parse.specs.Tokens.{Token}
-use Rattle.tt_parse.specs.Symbols.{the_word, the_mark, the_name, the_digits, the_eighteen, the_number, the_text, the_op, the_direction, the_backup_kind, the_bare, is_word, is_mark}
+use Rattle.tt_parse.specs.Symbols.{the_word, the_mark, the_name, the_digits, the_eighteen, the_number, the_text, the_op, the_direction, the_backup_kind, the_bare, is_word, is_mark, session_most}
 
 abbrev pub R : Type 0 → Type 0
 R A = Reader Token A
@@ -512,7 +512,7 @@ command = read_if is_bare bare statement
 unfoldable pub prefix : R ℕ
 prefix = do
   mark k.At
-  digits 1 64
+  digits 1 session_most
 
 unfoldable pub session : R ℕ
 session = read_if (is_mark k.At) prefix (read_nothing 1)

@@ -24,7 +24,7 @@ use Rattle.tt_parse.specs.Grammar.{Grammar, nothing, one, ◌>>=◌, ◌>>◌, �
 use Rattle.tt_parse.specs.declared.kind.Kind.{Kind}
 use Rattle.tt_parse.specs.declared.kind.Kind.TheVariants as k
 use Rattle.tt_parse.specs.Tokens.{Token}
-use Rattle.tt_parse.specs.Symbols.{the_word, the_mark, the_name, the_digits, the_eighteen, the_number, the_text, the_op, the_direction, the_backup_kind, the_bare}
+use Rattle.tt_parse.specs.Symbols.{the_word, the_mark, the_name, the_digits, the_eighteen, the_number, the_text, the_op, the_direction, the_backup_kind, the_bare, session_most}
 
 abbrev pub G : Type 0 → Type 1
 G A = Grammar Token A
@@ -307,7 +307,7 @@ command = one the_bare or_else statement
 unfoldable pub prefix : G ℕ
 prefix = do
   mark k.At
-  digits 1 64
+  digits 1 session_most
 
 -- ['@' digits]
 unfoldable pub session : G ℕ

@@ -15,8 +15,8 @@ use Rattle.tt_parse.specs.declared.cond.Op.{Op}
 use Rattle.tt_parse.specs.declared.cond.Op.TheVariants as ops
 use Rattle.tt_parse.specs.declared.cond.Operand.{Operand}
 use Rattle.tt_parse.specs.declared.cond.Operand.TheVariants as operands
-use Rattle.tt_parse.specs.declared.printer.Place.{Place}
-use Rattle.tt_parse.specs.declared.printer.Place.TheVariants as place
+use Rattle.tt_parse.specs.declared.printer.Context.{Context}
+use Rattle.tt_parse.specs.declared.printer.Context.TheVariants as context
 use Rattle.tt_parse.specs.declared.command.ColumnText.{ColumnText}
 use Rattle.tt_parse.specs.declared.command.SetItem.{SetItem}
 use Rattle.tt_parse.specs.declared.command.SetSource.{SetSource}
@@ -75,6 +75,11 @@ is_unspaced _ = false
 -- a piece behind a blank or behind none
 abbrev pub spaced : Bool → Piece → List ℕ
 spaced joins p = if joins || is_unspaced p.kind then p.bytes else 32 ∷ p.bytes
+
+-- a piece that is there or not
+abbrev pub if_there : Piece → Bool → List Piece
+if_there p true = p ∷ []
+if_there p false = []
 
 -- the pieces in a row, the first right behind what stands before it or not
 unfoldable pub joined : Bool → List Piece → List ℕ
@@ -144,37 +149,29 @@ null_test true = word (codes "is") ∷ word (codes "not") ∷ word (codes "null"
 null_test false = word (codes "is") ∷ word (codes "null") ∷ []
 
 -- where neither `or` nor `and` may stand without parentheses
-abbrev pub is_part : Place → Bool
-is_part place.Part = true
+abbrev pub is_part : Context → Bool
+is_part context.Part = true
 is_part _ = false
 
 -- where no `or` may
-abbrev pub is_under_and : Place → Bool
-is_under_and place.Or = false
+abbrev pub is_under_and : Context → Bool
+is_under_and context.Or = false
 is_under_and _ = true
 
-abbrev pub opened : Bool → List Piece
-opened true = open_mark ∷ []
-opened false = []
-
-abbrev pub closed : Bool → List Piece
-closed true = close_mark ∷ []
-closed false = []
-
--- each condition within it given by its spelling at each place
-abbrev pub condition_of : Cond-F (Place → List Piece) → Place → List Piece
+-- each condition within it given by its spelling in each context
+abbrev pub condition_of : Cond-F (Context → List Piece) → Context → List Piece
 condition_of (c.Compare column op right) here = word column ∷ op_piece op ∷ operand right
 condition_of (c.IsNull column not) here = word column ∷ null_test not
-condition_of (c.Not inner) here = word (codes "not") ∷ inner place.Part
-condition_of (c.And a b) here = opened (is_part here) ++ (a place.And ++ word (codes "and") ∷ (b place.Part ++ closed (is_part here)))
-condition_of (c.Or a b) here = opened (is_under_and here) ++ (a place.Or ++ word (codes "or") ∷ (b place.And ++ closed (is_under_and here)))
+condition_of (c.Not inner) here = word (codes "not") ∷ inner context.Part
+condition_of (c.And a b) here = if_there open_mark (is_part here) ++ (a context.And ++ word (codes "and") ∷ (b context.Part ++ if_there close_mark (is_part here)))
+condition_of (c.Or a b) here = if_there open_mark (is_under_and here) ++ (a context.Or ++ word (codes "or") ∷ (b context.And ++ if_there close_mark (is_under_and here)))
 
-unfoldable pub condition : Cond → Place → List Piece
-condition = fold-Cond (Place → List Piece) condition_of
+unfoldable pub condition : Cond → Context → List Piece
+condition = fold-Cond (Context → List Piece) condition_of
 
 abbrev pub filter : Option Cond → List Piece
 filter None = []
-filter (Some cond) = word (codes "where") ∷ condition cond place.Or
+filter (Some cond) = word (codes "where") ∷ condition cond context.Or
 
 -- ---- tables and indexes
 
@@ -194,10 +191,6 @@ column x = word x.name ∷ (column_type x.kind ++ required x.required)
 unfoldable pub columns : List ColumnText → List Piece
 columns [] = []
 columns (x ∷ xs) = column x ++ comma ∷ columns xs
-
-abbrev pub unique : Bool → List Piece
-unique true = word (codes "unique") ∷ []
-unique false = []
 
 -- ---- rows
 
@@ -219,12 +212,8 @@ select_items item_kinds.All = star ∷ []
 select_items (item_kinds.Columns names) = list name names
 select_items (item_kinds.Sums sums) = list aggregate sums
 
-abbrev pub direction : Bool → List Piece
-direction true = word (codes "desc") ∷ []
-direction false = []
-
 abbrev pub order_item : OrderItem → List Piece
-order_item x = word x.column ∷ direction x.down
+order_item x = word x.column ∷ if_there (word (codes "desc")) x.down
 
 abbrev pub order : List OrderItem → List Piece
 order [] = []
@@ -239,22 +228,10 @@ backup_kind backups.Incremental = word (codes "fileIncremental")
 backup_kind backups.IncrOrFull = word (codes "fileIncrOrFull")
 backup_kind backups.Stop = word (codes "incrementalStop")
 
--- Is it no statement on tables, indexes or rows?
-abbrev pub is_utility : Command → Bool
-is_utility (commands.CreateTable table cols key) = false
-is_utility (commands.DropTable table) = false
-is_utility (commands.CreateIndex index table columns is_unique) = false
-is_utility (commands.DropIndex index) = false
-is_utility (commands.Insert table values) = false
-is_utility (commands.Update table sets cond) = false
-is_utility (commands.Delete table cond) = false
-is_utility (commands.Select table items cond by) = false
-is_utility _ = true
-
 unfoldable pub pieces : Command → List Piece
 pieces (commands.CreateTable table cols key) = word (codes "create") ∷ word (codes "table") ∷ word table ∷ open_mark ∷ (columns cols ++ word (codes "primary") ∷ word (codes "key") ∷ (names key ++ close_mark ∷ []))
 pieces (commands.DropTable table) = word (codes "drop") ∷ word (codes "table") ∷ word table ∷ []
-pieces (commands.CreateIndex index table columns is_unique) = word (codes "create") ∷ (unique is_unique ++ word (codes "index") ∷ word index ∷ word (codes "on") ∷ word table ∷ names columns)
+pieces (commands.CreateIndex index table columns is_unique) = word (codes "create") ∷ (if_there (word (codes "unique")) is_unique ++ word (codes "index") ∷ word index ∷ word (codes "on") ∷ word table ∷ names columns)
 pieces (commands.DropIndex index) = word (codes "drop") ∷ word (codes "index") ∷ word index ∷ []
 pieces (commands.Insert table values) = word (codes "insert") ∷ word (codes "into") ∷ word table ∷ word (codes "values") ∷ open_mark ∷ (list literal values ++ close_mark ∷ [])
 pieces (commands.Update table sets cond) = word (codes "update") ∷ word table ∷ word (codes "set") ∷ (list set_item sets ++ filter cond)

@@ -3,7 +3,7 @@ use Rattle.std.specs.Prelude.{ℕ, zero, suc, ◌+◌, ◌-◌, ◌*◌, ◌^◌
 use Rattle.std.specs.Char.{to_ascii_lowercase}
 use Rattle.std.specs.List.{fold}
 use Rattle.std.specs.Str.{bytes_eq}
-use Rattle.tt_value.specs.Names.{is_name}
+use Rattle.tt_value.specs.Ident.{is_name}
 use Rattle.tt_value.specs.declared.value.Value.{Value}
 use Rattle.tt_value.specs.declared.value.Value.TheVariants as v
 use Rattle.tt_parse.specs.declared.cond.Op.{Op}
@@ -14,7 +14,7 @@ use Rattle.tt_parse.specs.declared.command.Command.{Command}
 use Rattle.tt_parse.specs.declared.command.Command.TheVariants as commands
 use Rattle.tt_parse.specs.declared.kind.Kind.{Kind}
 use Rattle.tt_parse.specs.declared.kind.Kind.TheVariants as k
-use Rattle.tt_parse.specs.declared.lex.Class.TheVariants as class
+use Rattle.tt_parse.specs.declared.tokens.Class.TheVariants as class
 use Rattle.tt_parse.specs.Tokens.{Token, same_kind, is_in, past, text_rest}
 
 -- ---- words, marks and names
@@ -52,7 +52,7 @@ one_digit_more n b = if is_in class.Digit b then 10 * n + (b - 48) else n
 unfoldable pub units : List ℕ → ℕ
 units bytes = fold one_digit_more 0 bytes
 
--- the place of the dot, which is the length where there is none
+-- the offset of the dot, which is the length where there is none
 abbrev pub whole_len : List ℕ → ℕ
 whole_len bytes = past class.Digit bytes 0
 
@@ -68,6 +68,10 @@ is_between low high bytes = not (has_dot bytes) && nat_le low (units bytes) && n
 
 unfoldable pub the_digits : ℕ → ℕ → Token → Option ℕ
 the_digits low high s = when (same_kind s.kind k.Number && is_between low high s.bytes) (units s.bytes)
+
+-- sessions are numbered from 1 to this
+abbrev pub session_most : ℕ
+session_most = 64
 
 -- up to the least number of i64, or up to the greatest
 abbrev pub most : Bool → ℕ

@@ -6,8 +6,8 @@ use denote.Enum.Bare.{sameb}
 use Rattle.tt_parse.specs.contracts.kind.Kind.{the_type}
 use Rattle.tt_parse.specs.declared.kind.Kind.{Kind}
 use Rattle.tt_parse.specs.declared.kind.Kind.TheVariants as k
-use Rattle.tt_parse.specs.declared.lex.Class.{Class}
-use Rattle.tt_parse.specs.declared.lex.Class.TheVariants as class
+use Rattle.tt_parse.specs.declared.tokens.Class.{Class}
+use Rattle.tt_parse.specs.declared.tokens.Class.TheVariants as class
 
 unfoldable pub same_kind : Kind → Kind → Bool
 same_kind = sameb the_type
@@ -18,7 +18,7 @@ is_in class.Digit b = nat_le 48 b && nat_le b 57
 is_in class.Word b = is_ascii_alphanumeric b || b == 95
 is_in class.Continuation b = nat_le 128 b && not (nat_le 192 b)
 
--- the first place from `at` on whose byte is not of the class
+-- the first offset from `at` on whose byte is not of the class
 abbrev pub past : Class → List ℕ → ℕ → ℕ
 past c z at = at + prefix_len (is_in c) (drop at z)
 
@@ -58,13 +58,13 @@ first z =
     else (if b == 62 then greater (slice_index z 1)
     else (single b, past class.Continuation z 1)))))
 
--- a token: its place in the line, its kind and its bytes
+-- a token: its offset in the line, its kind and its bytes
 pub record Token : Type 0 where
   pub at : ℕ
   pub kind : Kind
   pub bytes : List ℕ
 
--- The tokens from a place on. The first number counts the bytes that are left of a token that began before.
+-- The tokens from an offset on. The first number counts the bytes that are left of a token that began before.
 -- Where the line ends within a token, that is within a text, its end is a token of its own.
 unfoldable pub tokens_from : ℕ → ℕ → List ℕ → List Token
 tokens_from zero at [] = []

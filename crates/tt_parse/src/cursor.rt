@@ -1,6 +1,7 @@
-//! A cursor over the tokens of a line, which cuts each as it is reached.
+//! A cursor over the tokens of a line, which cuts each as it is reached. Contracts see it as the tokens that are still to be
+//! read.
 
-ghost use Rattle.std.specs.Prelude.{◌≡◌, ◌<◌, ◌≤◌, ◌+◌, ◌-◌, ◌^◌, length, drop, min};
+ghost use Rattle.std.specs.Prelude.{◌≡◌, ◌≤◌, ◌+◌, length};
 ghost use Rattle.tt_parse.specs.Tokens as spec;
 ghost use Rattle.tt_parse.specs.Cursor as view;
 ghost use Rattle.std.specs.Prelude.{◌≢◌, IfErr, IsUtf8, map, false, IsTrue, ◌↔◌, []};
@@ -12,62 +13,9 @@ ghost use Rattle.tt_parse.specs.Reading.{Reads};
 
 use crate::fault::ParseError;
 use crate::kind::Kind;
-use crate::lex;
-use crate::lex::Class;
+use crate::tokens;
+use crate::tokens::Class;
 use std::marker::Model;
-
-/// Where a token stands: from `at` up to `end`, which is past the line for a text that isn't closed.
-#[derive(Clone, Copy)]
-pub struct Lexeme {
-    pub at: usize,
-    pub kind: Kind,
-    pub end: usize,
-}
-
-fn lexeme_from(line: &[u8], from: usize) -> Lexeme
-    requires fits { length line.now < 2 ^ 32 }
-    requires within { from ≤ length line.now + 1 }
-    ensures shown { view.shown line.now result ≡ view.behind line.now from }
-    ensures order { (result.at ≤ result.end) × (result.at ≤ length line.now) × (result.end ≤ length line.now + 1) }
-    ensures text { result.kind ≡ Kind.Text → view.IsText line.now result }
-    ensures end { result.kind ≡ Kind.End → (result.at ≡ length line.now) × (result.end ≡ length line.now) }
-{
-    let len = line.len();
-    if from > len {
-        return Lexeme {
-            at: len,
-            kind: Kind::Unclosed,
-            end: len,
-        };
-    }
-    let at = lex::past(Class::Blank, line, from);
-    if at == len {
-        return Lexeme {
-            at,
-            kind: Kind::End,
-            end: at,
-        };
-    }
-    let (kind, token) = lex::first(&line[at..]);
-    Lexeme {
-        at,
-        kind,
-        end: at + token,
-    }
-}
-
-/// What stands between the quotes of a text.
-#[tactic(auto, unfolding(crate::specs::Symbols::inside))]
-fn inside(bytes: &[u8]) -> &[u8]
-    requires { length bytes.now < 2 ^ 32 }
-    ensures { result.now ≡ symbol.inside bytes.now }
-{
-    if bytes.is_empty() {
-        return &[];
-    }
-    let behind = &bytes[1..];
-    &behind[..lex::text_rest(behind) - 1]
-}
 
 /// The tokens of a line that are still to be read.
 #[derive(Drop)]
@@ -90,7 +38,6 @@ impl<'a> Model for Cursor<'a> {
 
 impl<'a> Cursor<'a> {
     pub fn new(line: &'a [u8]) -> Cursor<'a>
-        requires fits { length line.now < 2 ^ 32 }
         requires utf8 { IsUtf8 line.now }
         ensures { result ≡ spec.tokens_of line.now }
     {
@@ -116,7 +63,6 @@ impl<'a> Cursor<'a> {
     /// The bytes of the next token.
     pub fn bytes(&self) -> &'a [u8]
         ensures value { result.now ≡ view.next_bytes self.now }
-        ensures fits { length result.now < 2 ^ 32 }
         ensures text { view.next_kind self.now ≡ Kind.Text → IsUtf8 (symbol.undoubled false (symbol.inside result.now)) }
     {
         let end = self.next.end.min(self.line.len());
@@ -139,11 +85,11 @@ impl<'a> Cursor<'a> {
         self.next.kind == Kind::End
     }
 
-    /// The place of the next token.
-    pub fn place(&self) -> u32
-        ensures { view.IsPlace self.now result }
+    /// The offset of the next token in the line.
+    pub fn offset(&self) -> u64
+        ensures { view.IsOffset self.now result }
     {
-        self.next.at as u32
+        self.next.at as u64
     }
 
     /// Is the next token, or the line's end, of this kind?
@@ -210,4 +156,55 @@ impl<'a> Cursor<'a> {
         self.advance();
         true
     }
+}
+
+/// Where a token stands: from `at` up to `end`, which is past the line for a text that isn't closed.
+#[derive(Clone, Copy)]
+pub struct Lexeme {
+    pub at: usize,
+    pub kind: Kind,
+    pub end: usize,
+}
+
+fn lexeme_from(line: &[u8], from: usize) -> Lexeme
+    requires within { from ≤ length line.now + 1 }
+    ensures shown { view.shown line.now result ≡ view.behind line.now from }
+    ensures order { (result.at ≤ result.end) × (result.at ≤ length line.now) × (result.end ≤ length line.now + 1) }
+    ensures text { result.kind ≡ Kind.Text → view.IsText line.now result }
+    ensures end { result.kind ≡ Kind.End → (result.at ≡ length line.now) × (result.end ≡ length line.now) }
+{
+    let len = line.len();
+    if from > len {
+        return Lexeme {
+            at: len,
+            kind: Kind::Unclosed,
+            end: len,
+        };
+    }
+    let at = tokens::past(Class::Blank, line, from);
+    if at == len {
+        return Lexeme {
+            at,
+            kind: Kind::End,
+            end: at,
+        };
+    }
+    let (kind, token) = tokens::first(&line[at..]);
+    Lexeme {
+        at,
+        kind,
+        end: at + token,
+    }
+}
+
+/// What stands between the quotes of a text.
+#[tactic(auto, unfolding(crate::specs::Symbols::inside))]
+fn inside(bytes: &[u8]) -> &[u8]
+    ensures { result.now ≡ symbol.inside bytes.now }
+{
+    if bytes.is_empty() {
+        return &[];
+    }
+    let behind = &bytes[1..];
+    &behind[..tokens::text_rest(behind) - 1]
 }

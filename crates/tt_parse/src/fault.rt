@@ -1,3 +1,5 @@
+//! Why a part of a line was not read. An allocation that fails becomes `NoMemory` by `?`.
+
 use std::alloc::{AllocError, AllocFailed};
 
 /// Why a part of a line was not read.

@@ -1,17 +1,17 @@
-//! Reads a line of the script language exactly by its grammar.
+//! Reads a line of the script language exactly by its grammar, and writes a command as a line that gives it again. What is
+//! read stands in the modules of this name, what is written in those whose names begin with `print`.
 #![tactic(auto)]
 
 mod change;
 mod command;
 mod cond;
 mod condition;
-mod copy;
 mod cursor;
 mod definition;
 mod fault;
 mod kind;
-mod lex;
 mod line;
+mod list;
 mod literal;
 mod name;
 mod number;
@@ -27,6 +27,7 @@ mod printer;
 mod select;
 #[cfg(test)]
 mod tests;
+mod tokens;
 mod utility;
 
 pub use command::{

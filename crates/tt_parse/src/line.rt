@@ -18,6 +18,60 @@ use crate::select::select;
 use crate::utility::utility;
 use std::alloc::Global;
 
+/// The session of the line, which is 1 where none is given.
+#[tactic(auto, unfolding(crate::specs::Reading::session))]
+pub fn session(tokens: &mut Cursor<'_>) -> Result<u8, ParseError>
+    ensures read { Reads (read.session tokens.old) result tokens.new }
+    ensures within { IfOk result (λ n. (1 ≤ n) × (n ≤ symbol.session_most)) }
+    ensures without_memory { IfErr result (λ e. e ≡ ParseError.Off) }
+{
+    if tokens.sees(Kind::At) {
+        prefix(tokens)
+    } else {
+        Ok(1)
+    }
+}
+
+/// A command and the semicolon behind it, if there is one.
+#[tactic(auto, unfolding(crate::specs::Reading::body))]
+pub fn body(alloc: Global, tokens: &mut Cursor<'_>) -> Result<Command, ParseError>
+    ensures read { Reads (read.body tokens.old) result tokens.new }
+    ensures without_memory { next_is read.is_bare tokens.old ≡ true → IfErr result (λ e. e ≡ ParseError.Off) }
+{
+    let command = command(alloc, tokens)?;
+    semicolon(tokens)?;
+    Ok(command)
+}
+
+/// Sessions are numbered from 1 to this.
+const SESSION_MAX: u32 = 64;
+
+#[tactic(auto, unfolding(crate::specs::Reading::prefix))]
+fn prefix(tokens: &mut Cursor<'_>) -> Result<u8, ParseError>
+    ensures read { Reads (read.prefix tokens.old) result tokens.new }
+    ensures within { IfOk result (λ n. (1 ≤ n) × (n ≤ symbol.session_most)) }
+    ensures without_memory { IfErr result (λ e. e ≡ ParseError.Off) }
+{
+    tokens.mark(Kind::At)?;
+    let session = digits(tokens, 1, SESSION_MAX)?;
+    Ok(session as u8)
+}
+
+/// A command. One that is one word is read without memory.
+#[tactic(auto, using(crate::proofs::Parts::command_no, crate::proofs::Parts::command_yes, crate::proofs::Parts::not_bare))]
+fn command(alloc: Global, tokens: &mut Cursor<'_>) -> Result<Command, ParseError>
+    ensures read { Reads (read.command tokens.old) result tokens.new }
+    ensures without_memory { next_is read.is_bare tokens.old ≡ true → IfErr result (λ e. e ≡ ParseError.Off) }
+{
+    match bare_of(tokens) {
+        Some(command) => {
+            tokens.advance();
+            Ok(command)
+        }
+        None => statement(alloc, tokens),
+    }
+}
+
 /// The command that the next token alone is.
 #[tactic(auto, using(crate::proofs::Parts::next_bare))]
 fn bare_of(tokens: &Cursor<'_>) -> Option<Command>
@@ -70,46 +124,6 @@ fn statement(alloc: Global, tokens: &mut Cursor<'_>) -> Result<Command, ParseErr
     }
 }
 
-/// A command. One that is one word is read without memory.
-#[tactic(auto, using(crate::proofs::Parts::command_no, crate::proofs::Parts::command_yes, crate::proofs::Parts::not_bare))]
-fn command(alloc: Global, tokens: &mut Cursor<'_>) -> Result<Command, ParseError>
-    ensures read { Reads (read.command tokens.old) result tokens.new }
-    ensures without_memory { next_is read.is_bare tokens.old ≡ true → IfErr result (λ e. e ≡ ParseError.Off) }
-{
-    match bare_of(tokens) {
-        Some(command) => {
-            tokens.advance();
-            Ok(command)
-        }
-        None => statement(alloc, tokens),
-    }
-}
-
-#[tactic(auto, unfolding(crate::specs::Reading::prefix))]
-fn prefix(tokens: &mut Cursor<'_>) -> Result<u8, ParseError>
-    ensures read { Reads (read.prefix tokens.old) result tokens.new }
-    ensures within { IfOk result (λ n. (1 ≤ n) × (n ≤ 64)) }
-    ensures without_memory { IfErr result (λ e. e ≡ ParseError.Off) }
-{
-    tokens.mark(Kind::At)?;
-    let session = digits(tokens, 1, 64)?;
-    Ok(session as u8)
-}
-
-/// The session of the line, which is 1 where none is given.
-#[tactic(auto, unfolding(crate::specs::Reading::session))]
-pub fn session(tokens: &mut Cursor<'_>) -> Result<u8, ParseError>
-    ensures read { Reads (read.session tokens.old) result tokens.new }
-    ensures within { IfOk result (λ n. (1 ≤ n) × (n ≤ 64)) }
-    ensures without_memory { IfErr result (λ e. e ≡ ParseError.Off) }
-{
-    if tokens.sees(Kind::At) {
-        prefix(tokens)
-    } else {
-        Ok(1)
-    }
-}
-
 #[tactic(auto, unfolding(crate::specs::Reading::semicolon))]
 fn semicolon(tokens: &mut Cursor<'_>) -> Result<(), ParseError>
     ensures read { Reads (read.semicolon tokens.old) result tokens.new }
@@ -120,15 +134,4 @@ fn semicolon(tokens: &mut Cursor<'_>) -> Result<(), ParseError>
     } else {
         Ok(())
     }
-}
-
-/// A command and the semicolon behind it, if there is one.
-#[tactic(auto, unfolding(crate::specs::Reading::body))]
-pub fn body(alloc: Global, tokens: &mut Cursor<'_>) -> Result<Command, ParseError>
-    ensures read { Reads (read.body tokens.old) result tokens.new }
-    ensures without_memory { next_is read.is_bare tokens.old ≡ true → IfErr result (λ e. e ≡ ParseError.Off) }
-{
-    let command = command(alloc, tokens)?;
-    semicolon(tokens)?;
-    Ok(command)
 }

@@ -2,61 +2,17 @@
 
 ghost use Rattle.std.specs.Prelude.{◌≡◌, false, IfOk};
 ghost use Rattle.tt_parse.specs.Reading as read;
-ghost use Rattle.tt_parse.specs.Reading.{Reads, prepend};
+ghost use Rattle.tt_parse.specs.Reading.{Reads};
 ghost use Rattle.tt_parse.specs.Reader.{next_is};
 ghost use Rattle.tt_parse.specs.Symbols as symbol;
 
 use crate::cursor::Cursor;
 use crate::fault::ParseError;
 use crate::kind::Kind;
+use crate::list::ReadItem;
 use crate::number::number;
 use std::alloc::{AllocError, Global};
-use tt_value::{List, Text, Value};
-
-#[tactic(auto, unfolding(crate::specs::Reading::null))]
-fn null(tokens: &mut Cursor<'_>) -> Result<Value, ParseError>
-    ensures { Reads (read.null tokens.old) result tokens.new }
-{
-    tokens.word(b"null")?;
-    Ok(Value::Null)
-}
-
-#[tactic(auto, unfolding(crate::specs::Symbols::undoubled))]
-fn undouble(alloc: Global, mut text: &[u8]) -> Result<Vec<u8>, AllocError>
-    ensures { IfOk result (λ v. v.items ≡ symbol.undoubled false text.entry.now) }
-{
-    let mut plain = Vec::new(alloc);
-    let mut is_second = false;
-    while let [b, rest @ ..] = text {
-        if !is_second {
-            plain.push(*b)?;
-        }
-        is_second = !is_second && *b == b'\'';
-        text = rest;
-    }
-    Ok(plain)
-}
-
-#[tactic(auto, using(crate::proofs::Parts::text_other_kind, crate::proofs::Parts::text_yes, crate::proofs::Parts::is_text))]
-fn text(alloc: Global, tokens: &mut Cursor<'_>) -> Result<Value, ParseError>
-    ensures { Reads (read.text tokens.old) result tokens.new }
-{
-    if !tokens.is(Kind::Text) {
-        return Err(ParseError::Off);
-    }
-    let plain = undouble(alloc, tokens.text())?;
-    let text = Text::from_vec(plain).unwrap();
-    tokens.advance();
-    Ok(Value::Text(text))
-}
-
-#[tactic(auto, unfolding(crate::specs::Reading::negative))]
-fn negative(tokens: &mut Cursor<'_>) -> Result<Value, ParseError>
-    ensures { Reads (read.negative tokens.old) result tokens.new }
-{
-    tokens.mark(Kind::Minus)?;
-    number(tokens, true)
-}
+use tt_value::{Text, Value};
 
 #[tactic(auto, unfolding(crate::specs::Reading::literal))]
 pub fn literal(alloc: Global, tokens: &mut Cursor<'_>) -> Result<Value, ParseError>
@@ -83,27 +39,56 @@ pub fn sees_literal(tokens: &Cursor<'_>) -> bool
         || tokens.sees_word(b"null")
 }
 
-/// Adds the literals that follow, each behind a comma.
-#[tactic(auto, using(crate::proofs::Lists::literals_go, crate::proofs::Lists::literals_fail, crate::proofs::Lists::literals_stop, crate::proofs::Lists::literals_shrink))]
-fn more_literals(
-    alloc: Global,
-    tokens: &mut Cursor<'_>,
-    mut values: List<Value>,
-) -> Result<List<Value>, ParseError>
-    ensures { Reads (prepend values (read.more_items read.literal tokens.old)) result tokens.new }
-{
-    'commas: while tokens.sees(Kind::Comma) {
-        tokens.advance();
-        values.push(literal(alloc, tokens)?)?;
+impl ReadItem for Value {
+    ghost reader = { read.literal };
+
+    #[tactic(auto, using(crate::proofs::Lists::literal_within))]
+    fn read_item(alloc: Global, tokens: &mut Cursor<'_>) -> Result<Value, ParseError> {
+        literal(alloc, tokens)
     }
-    Ok(values)
 }
 
-#[tactic(auto, unfolding(crate::specs::Reading::comma_list))]
-pub fn literal_list(alloc: Global, tokens: &mut Cursor<'_>) -> Result<List<Value>, ParseError>
-    ensures { Reads (read.comma_list read.literal tokens.old) result tokens.new }
+#[tactic(auto, unfolding(crate::specs::Reading::null))]
+fn null(tokens: &mut Cursor<'_>) -> Result<Value, ParseError>
+    ensures { Reads (read.null tokens.old) result tokens.new }
 {
-    let mut values = List::new(alloc);
-    values.push(literal(alloc, tokens)?)?;
-    more_literals(alloc, tokens, values)
+    tokens.word(b"null")?;
+    Ok(Value::Null)
+}
+
+#[tactic(auto, unfolding(crate::specs::Reading::negative))]
+fn negative(tokens: &mut Cursor<'_>) -> Result<Value, ParseError>
+    ensures { Reads (read.negative tokens.old) result tokens.new }
+{
+    tokens.mark(Kind::Minus)?;
+    number(tokens, true)
+}
+
+#[tactic(auto, using(crate::proofs::Parts::text_other_kind, crate::proofs::Parts::text_yes, crate::proofs::Parts::is_text))]
+fn text(alloc: Global, tokens: &mut Cursor<'_>) -> Result<Value, ParseError>
+    ensures { Reads (read.text tokens.old) result tokens.new }
+{
+    if !tokens.is(Kind::Text) {
+        return Err(ParseError::Off);
+    }
+    let plain = undouble(alloc, tokens.text())?;
+    let text = Text::from_vec(plain).unwrap();
+    tokens.advance();
+    Ok(Value::Text(text))
+}
+
+#[tactic(auto, unfolding(crate::specs::Symbols::undoubled))]
+fn undouble(alloc: Global, mut text: &[u8]) -> Result<Vec<u8>, AllocError>
+    ensures { IfOk result (λ v. v.items ≡ symbol.undoubled false text.entry.now) }
+{
+    let mut plain = Vec::new(alloc);
+    let mut is_second = false;
+    while let [b, rest @ ..] = text {
+        if !is_second {
+            plain.push(*b)?;
+        }
+        is_second = !is_second && *b == b'\'';
+        text = rest;
+    }
+    Ok(plain)
 }

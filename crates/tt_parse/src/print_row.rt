@@ -1,7 +1,7 @@
 //! Writes commands that change rows.
 
 ghost use Rattle.std.specs.Prelude.{◌≡◌, OnOk};
-ghost use Rattle.tt_parse.specs.Written.{put_all};
+ghost use Rattle.tt_parse.specs.Printer.{put_all};
 ghost use Rattle.tt_parse.specs.Spelling as spell;
 ghost use Rattle.tt_parse.specs.declared.command.Command.TheVariants as commands;
 
@@ -9,34 +9,11 @@ use crate::command::{SetItem, SetSource};
 use crate::cond::Cond;
 use crate::kind::Kind;
 use crate::print_condition::filter;
+use crate::print_list::{PrintItem, list};
 use crate::print_literal::literal;
 use crate::printer::Printer;
 use std::alloc::AllocError;
 use tt_value::{Ident, List, Value};
-
-#[tactic(auto, unfolding(crate::specs::Spelling::more_items), using(crate::proofs::Printing::put_all_append))]
-fn more_literals(out: &mut Printer, mut values: &[Value]) -> Result<(), AllocError>
-    ensures { OnOk result (out.new ≡ put_all out.old (spell.more_items spell.literal values.entry.now)) }
-{
-    'items: while let [first, rest @ ..] = values {
-        out.comma()?;
-        literal(out, first)?;
-        values = rest;
-    }
-    Ok(())
-}
-
-#[tactic(auto, unfolding(crate::specs::Spelling::list), using(crate::proofs::Printing::put_all_append))]
-fn literal_list(out: &mut Printer, values: &List<Value>) -> Result<(), AllocError>
-    ensures { OnOk result (out.new ≡ put_all out.old (spell.list spell.literal values.now)) }
-{
-    if let [first, rest @ ..] = values.as_slice() {
-        literal(out, first)?;
-        more_literals(out, rest)
-    } else {
-        Ok(())
-    }
-}
 
 #[tactic(auto, unfolding(crate::specs::Spelling::pieces), using(crate::proofs::Printing::put_all_append))]
 pub fn insert(out: &mut Printer, table: &Ident, values: &List<Value>) -> Result<(), AllocError>
@@ -47,8 +24,44 @@ pub fn insert(out: &mut Printer, table: &Ident, values: &List<Value>) -> Result<
     out.word(table.as_bytes())?;
     out.word(b"values")?;
     out.open()?;
-    literal_list(out, values)?;
+    list(out, values)?;
     out.close()
+}
+
+#[tactic(auto, unfolding(crate::specs::Spelling::pieces), using(crate::proofs::Printing::put_all_append))]
+pub fn update(
+    out: &mut Printer,
+    table: &Ident,
+    sets: &List<SetItem>,
+    cond: &Option<Cond>,
+) -> Result<(), AllocError>
+    ensures { OnOk result (out.new ≡ put_all out.old (spell.pieces (commands.Update table.now sets.now cond.now))) }
+{
+    out.word(b"update")?;
+    out.word(table.as_bytes())?;
+    out.word(b"set")?;
+    list(out, sets)?;
+    filter(out, cond)
+}
+
+#[tactic(auto, unfolding(crate::specs::Spelling::pieces))]
+pub fn delete(out: &mut Printer, table: &Ident, cond: &Option<Cond>) -> Result<(), AllocError>
+    ensures { OnOk result (out.new ≡ put_all out.old (spell.pieces (commands.Delete table.now cond.now))) }
+{
+    out.word(b"delete")?;
+    out.word(b"from")?;
+    out.word(table.as_bytes())?;
+    filter(out, cond)
+}
+
+impl PrintItem for SetItem {
+    ghost pieces = { spell.set_item };
+
+    fn print_item(&self, out: &mut Printer) -> Result<(), AllocError> {
+        out.word(self.column.as_bytes())?;
+        out.token(Kind::Equal, b"=")?;
+        set_source(out, &self.source)
+    }
 }
 
 fn set_source(out: &mut Printer, source: &SetSource) -> Result<(), AllocError>
@@ -68,62 +81,4 @@ fn set_source(out: &mut Printer, source: &SetSource) -> Result<(), AllocError>
             literal(out, by)
         }
     }
-}
-
-fn set_item(out: &mut Printer, item: &SetItem) -> Result<(), AllocError>
-    ensures { OnOk result (out.new ≡ put_all out.old (spell.set_item item.now)) }
-{
-    out.word(item.column.as_bytes())?;
-    out.token(Kind::Equal, b"=")?;
-    set_source(out, &item.source)
-}
-
-#[tactic(auto, unfolding(crate::specs::Spelling::more_items), using(crate::proofs::Printing::put_all_append))]
-fn more_sets(out: &mut Printer, mut sets: &[SetItem]) -> Result<(), AllocError>
-    ensures { OnOk result (out.new ≡ put_all out.old (spell.more_items spell.set_item sets.entry.now)) }
-{
-    'items: while let [first, rest @ ..] = sets {
-        out.comma()?;
-        set_item(out, first)?;
-        sets = rest;
-    }
-    Ok(())
-}
-
-#[tactic(auto, unfolding(crate::specs::Spelling::list), using(crate::proofs::Printing::put_all_append))]
-fn set_list(out: &mut Printer, sets: &List<SetItem>) -> Result<(), AllocError>
-    ensures { OnOk result (out.new ≡ put_all out.old (spell.list spell.set_item sets.now)) }
-{
-    if let [first, rest @ ..] = sets.as_slice() {
-        set_item(out, first)?;
-        more_sets(out, rest)
-    } else {
-        Ok(())
-    }
-}
-
-#[tactic(auto, unfolding(crate::specs::Spelling::pieces), using(crate::proofs::Printing::put_all_append))]
-pub fn update(
-    out: &mut Printer,
-    table: &Ident,
-    sets: &List<SetItem>,
-    cond: &Option<Cond>,
-) -> Result<(), AllocError>
-    ensures { OnOk result (out.new ≡ put_all out.old (spell.pieces (commands.Update table.now sets.now cond.now))) }
-{
-    out.word(b"update")?;
-    out.word(table.as_bytes())?;
-    out.word(b"set")?;
-    set_list(out, sets)?;
-    filter(out, cond)
-}
-
-#[tactic(auto, unfolding(crate::specs::Spelling::pieces))]
-pub fn delete(out: &mut Printer, table: &Ident, cond: &Option<Cond>) -> Result<(), AllocError>
-    ensures { OnOk result (out.new ≡ put_all out.old (spell.pieces (commands.Delete table.now cond.now))) }
-{
-    out.word(b"delete")?;
-    out.word(b"from")?;
-    out.word(table.as_bytes())?;
-    filter(out, cond)
 }

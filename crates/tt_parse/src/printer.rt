@@ -1,30 +1,12 @@
-//! Writes tokens with the blanks between them.
+//! Writes tokens with the blanks between them: one between two, but none before `,` or `)` and none behind what joins.
 
 ghost use Rattle.std.specs.Prelude.{◌≡◌, ◌++◌, ◌∷◌, [], OnOk, if◌then◌else◌};
-ghost use Rattle.tt_parse.specs.Written.{put, empty};
+ghost use Rattle.tt_parse.specs.Printer.{put, empty};
 ghost use Rattle.tt_parse.specs.Spelling as spell;
 
 use crate::kind::Kind;
 use std::alloc::{AllocError, Global};
 use std::marker::Model;
-
-/// Where a condition stands: where `or` may join it with others, where only `and` may, or where neither may.
-#[derive(Clone, Copy, Debug, PartialEq, Eq)]
-pub enum Place {
-    Or,
-    And,
-    Part,
-}
-
-/// Does no blank stand before a token of this kind?
-fn is_unspaced(kind: Kind) -> bool
-    ensures { result ≡ spell.is_unspaced kind }
-{
-    match kind {
-        Kind::Comma | Kind::Close => true,
-        _ => false,
-    }
-}
 
 /// A row of tokens, with one blank between two but where none belongs.
 #[derive(Drop)]
@@ -34,7 +16,7 @@ pub struct Printer {
 }
 
 impl Model for Printer {
-    ghost use Rattle.tt_parse.specs.Written.{Written};
+    ghost use Rattle.tt_parse.specs.Printer.{Written};
 
     ghost Value = { Written };
 
@@ -73,7 +55,7 @@ impl Printer {
     }
 
     /// A token, with a blank before it where one belongs.
-    #[tactic(auto, unfolding(crate::specs::Written::put), using(crate::proofs::Printing::spaced_bytes))]
+    #[tactic(auto, unfolding(crate::specs::Printer::put), using(crate::proofs::Printing::spaced_bytes))]
     pub fn token(&mut self, kind: Kind, bytes: &[u8]) -> Result<(), AllocError>
         ensures { OnOk result (self.new ≡ put self.old (spell.mark kind bytes.now)) }
     {
@@ -108,7 +90,7 @@ impl Printer {
         self.token(Kind::Close, b")")
     }
 
-    #[tactic(auto, unfolding(crate::specs::Written::put))]
+    #[tactic(auto, unfolding(crate::specs::Printer::put))]
     pub fn open(&mut self) -> Result<(), AllocError>
         ensures { OnOk result (self.new ≡ put self.old spell.open_mark) }
     {
@@ -118,12 +100,30 @@ impl Printer {
     }
 
     /// The `-` of a literal.
-    #[tactic(auto, unfolding(crate::specs::Written::put))]
+    #[tactic(auto, unfolding(crate::specs::Printer::put))]
     pub fn sign(&mut self) -> Result<(), AllocError>
         ensures { OnOk result (self.new ≡ put self.old spell.sign) }
     {
         self.token(Kind::Minus, b"-")?;
         self.joins = true;
         Ok(())
+    }
+}
+
+/// Where a condition stands: where `or` may join it with others, where only `and` may, or where neither may.
+#[derive(Clone, Copy, Debug, PartialEq, Eq)]
+pub enum Context {
+    Or,
+    And,
+    Part,
+}
+
+/// Does no blank stand before a token of this kind?
+fn is_unspaced(kind: Kind) -> bool
+    ensures { result ≡ spell.is_unspaced kind }
+{
+    match kind {
+        Kind::Comma | Kind::Close => true,
+        _ => false,
     }
 }

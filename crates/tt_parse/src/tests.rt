@@ -34,9 +34,8 @@ fn name_of(command: &Command) -> &'static str {
     }
 }
 
-/// What a line gives in a word, its session, and its place if it is off the grammar.
+/// What a line gives in a word, its session, and its offset if it is off the grammar.
 fn outcome(rt: &impl Abort, alloc: Global, line: &[u8]) -> (&'static str, u8, u32) {
-    assert!(rt; line.len() <= 4096);
     match parse_line(alloc, line) {
         LineKind::Skip => ("skipped", 0, 0),
         LineKind::Run { session, what } => match what {
@@ -140,7 +139,7 @@ fn lines_of_the_grammar(rt: HostRuntime) {
     }
 }
 
-/// The line without its `^`, and the place where that stood.
+/// The line without its `^`, and the offset at which that stood.
 fn marked(alloc: Global, text: &[u8]) -> Result<(Vec<u8>, usize), Fail> {
     let at = text.iter().position(|b| *b == b'^').unwrap_or(0);
     let mut line = Vec::new(alloc);
@@ -156,8 +155,8 @@ fn marked(alloc: Global, text: &[u8]) -> Result<(Vec<u8>, usize), Fail> {
 fn expect_off(rt: &impl Abort, alloc: Global, lines: &[&str]) -> Result<(), Fail> {
     for text in lines {
         let (line, at) = marked(alloc, text.as_bytes())?;
-        let (word, _, place) = outcome(rt, alloc, line.as_slice());
-        assert_eq!(rt; (word, place as usize), ("off", at), "{text}");
+        let (word, _, offset) = outcome(rt, alloc, line.as_slice());
+        assert_eq!(rt; (word, offset as usize), ("off", at), "{text}");
     }
     Ok(())
 }
@@ -486,14 +485,13 @@ fn put_cond(out: &mut Vec<u8>, cond: &Cond) -> Result<(), Fail> {
     Ok(())
 }
 
-/// A copy of the command that the line gives; a commit where it gives none.
+/// The command that the line gives; a commit where it gives none.
 fn command_of(rt: &impl Abort, alloc: Global, line: &[u8]) -> Result<Command, Fail> {
-    assert!(rt; line.len() <= 4096);
     match parse_line(alloc, line) {
         LineKind::Run {
             session: _,
             what: Ok(command),
-        } => Ok(command.copy(alloc)?),
+        } => Ok(command),
         _ => Ok(Command::Commit),
     }
 }
@@ -568,7 +566,6 @@ fn literals_are_values(rt: HostRuntime) -> Result<(), Fail> {
 
 /// The canonical spelling of the command of a line; nothing where the line gives none.
 fn spelling_of(rt: &impl Abort, alloc: Global, line: &[u8]) -> Result<Vec<u8>, Fail> {
-    assert!(rt; line.len() <= 4096);
     let mut out = Vec::new(alloc);
     if let LineKind::Run {
         session: _,

@@ -13,6 +13,48 @@ use crate::name::name;
 use crate::number::digits;
 use std::alloc::Global;
 
+#[tactic(auto, unfolding(crate::specs::Reading::utility))]
+pub fn utility(alloc: Global, tokens: &mut Cursor<'_>) -> Result<Command, ParseError>
+    ensures { Reads (read.utility tokens.old) result tokens.new }
+{
+    if tokens.sees_word(b"ttbackup") {
+        backup(tokens)
+    } else if tokens.sees_word(b"ttxlabookmarkcreate") {
+        create_bookmark(alloc, tokens)
+    } else if tokens.sees_word(b"ttxlabookmarkdelete") {
+        delete_bookmark(alloc, tokens)
+    } else if tokens.sees_word(b"ttxlasubscribe") {
+        subscribe(alloc, tokens)
+    } else if tokens.sees_word(b"ttxlaunsubscribe") {
+        unsubscribe(alloc, tokens)
+    } else if tokens.sees_word(b"ttxlaopen") {
+        open_reader(alloc, tokens)
+    } else {
+        next_update(tokens)
+    }
+}
+
+#[tactic(auto, unfolding(crate::specs::Reading::backup))]
+fn backup(tokens: &mut Cursor<'_>) -> Result<Command, ParseError>
+    ensures { Reads (read.backup tokens.old) result tokens.new }
+{
+    tokens.word(b"ttbackup")?;
+    let set = digits(tokens, 1, 999)?;
+    let kind = backup_kind(tokens)?;
+    Ok(Command::Backup { set, kind })
+}
+
+#[tactic(auto, using(crate::proofs::Parts::backup_kind_no, crate::proofs::Parts::backup_kind_yes))]
+fn backup_kind(tokens: &mut Cursor<'_>) -> Result<BackupKind, ParseError>
+    ensures { Reads (read.backup_kind tokens.old) result tokens.new }
+{
+    let Some(kind) = backup_kind_of(tokens) else {
+        return Err(ParseError::Off);
+    };
+    tokens.advance();
+    Ok(kind)
+}
+
 #[tactic(auto, using(crate::proofs::Parts::next_backup_kind))]
 fn backup_kind_of(tokens: &Cursor<'_>) -> Option<BackupKind>
     ensures { result ≡ next_found symbol.the_backup_kind tokens.now }
@@ -30,27 +72,6 @@ fn backup_kind_of(tokens: &Cursor<'_>) -> Option<BackupKind>
     } else {
         None
     }
-}
-
-#[tactic(auto, using(crate::proofs::Parts::backup_kind_no, crate::proofs::Parts::backup_kind_yes))]
-fn backup_kind(tokens: &mut Cursor<'_>) -> Result<BackupKind, ParseError>
-    ensures { Reads (read.backup_kind tokens.old) result tokens.new }
-{
-    let Some(kind) = backup_kind_of(tokens) else {
-        return Err(ParseError::Off);
-    };
-    tokens.advance();
-    Ok(kind)
-}
-
-#[tactic(auto, unfolding(crate::specs::Reading::backup))]
-fn backup(tokens: &mut Cursor<'_>) -> Result<Command, ParseError>
-    ensures { Reads (read.backup tokens.old) result tokens.new }
-{
-    tokens.word(b"ttbackup")?;
-    let set = digits(tokens, 1, 999)?;
-    let kind = backup_kind(tokens)?;
-    Ok(Command::Backup { set, kind })
 }
 
 #[tactic(auto, unfolding(crate::specs::Reading::on_bookmark))]
@@ -107,25 +128,4 @@ fn next_update(tokens: &mut Cursor<'_>) -> Result<Command, ParseError>
     tokens.word(b"ttxlanextupdate")?;
     let count = digits(tokens, 1, 1000)?;
     Ok(Command::XlaNext { count })
-}
-
-#[tactic(auto, unfolding(crate::specs::Reading::utility))]
-pub fn utility(alloc: Global, tokens: &mut Cursor<'_>) -> Result<Command, ParseError>
-    ensures { Reads (read.utility tokens.old) result tokens.new }
-{
-    if tokens.sees_word(b"ttbackup") {
-        backup(tokens)
-    } else if tokens.sees_word(b"ttxlabookmarkcreate") {
-        create_bookmark(alloc, tokens)
-    } else if tokens.sees_word(b"ttxlabookmarkdelete") {
-        delete_bookmark(alloc, tokens)
-    } else if tokens.sees_word(b"ttxlasubscribe") {
-        subscribe(alloc, tokens)
-    } else if tokens.sees_word(b"ttxlaunsubscribe") {
-        unsubscribe(alloc, tokens)
-    } else if tokens.sees_word(b"ttxlaopen") {
-        open_reader(alloc, tokens)
-    } else {
-        next_update(tokens)
-    }
 }

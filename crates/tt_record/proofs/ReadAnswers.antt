@@ -1,10 +1,10 @@
 -- What an answer of a reading says of the bytes.
 use Rattle.std.proofs.Common.{◌≡◌, ◌≤◌, ℕ, List, length, drop, Result, Ok, Err, Option, Some, None, sym, ap, ◌∙◌, arith, length-append, IfOk, IfSome}
-use Rattle.tt_value.specs.WordLaws.{AreBytes}
+use Rattle.tt_value.specs.BigEndianLaws.{AreBytes}
 use Rattle.tt_record.specs.declared.entry.Entry.{Entry}
-use Rattle.tt_record.specs.Entries.{entry_bytes, length_of, BeginsWith}
+use Rattle.tt_record.specs.Entry.{entry_bytes, length_of, BeginsWith}
 use Rattle.tt_record.specs.EntryLaws.{takes, first_is_read, some_bytes}
-use Rattle.tt_record.specs.Reading.{entry_at}
+use Rattle.tt_record.specs.Read.{entry_at}
 
 pub entry_stands : {E : Type 0} (bytes : List ℕ) (answer : Result (Option (Entry × ℕ)) E) → AreBytes bytes → IfOk answer (λ o. o ≡ entry_at bytes)
     → IfOk answer (λ o. IfSome o (λ p. BeginsWith bytes p.0 × (p.1 ≡ length_of p.0)))

@@ -5,10 +5,10 @@ use Rattle.std.proofs.lemmas.Grind.{flat_map-append}
 use Rattle.std.proofs.lemmas.List.{length-drop}
 use Rattle.std.proofs.lemmas.List.Elements.{All-from_recursion, recursion_from_All}
 use Rattle.std.proofs.Math.Seq.{drop-append_seam}
-use Rattle.tt_value.specs.WordLaws.{AreBytes, drop_bytes}
+use Rattle.tt_value.specs.BigEndianLaws.{AreBytes, drop_bytes}
 use Rattle.tt_record.specs.declared.entry.Entry.{Entry}
-use Rattle.tt_record.specs.Entries.{entry_bytes, length_of, IsEntry, BeginsWith, body_bytes, IsBody}
-use Rattle.tt_record.specs.Reading.{entry_at, behind, with_rest, entries_within, entries_of}
+use Rattle.tt_record.specs.Entry.{entry_bytes, length_of, IsEntry, BeginsWith, body_bytes, IsBody}
+use Rattle.tt_record.specs.Read.{entry_at, behind, with_rest, entries_within, entries_of}
 use Rattle.tt_record.specs.EntryLaws.{takes, takes_some, again}
 
 same_list : (es fs : List Entry) → Some es ≡ Some fs → es ≡ fs

@@ -4,19 +4,19 @@ use Rattle.std.proofs.lemmas.Bool.{leb-true, ltb-true, lt-ltb, eqb-true}
 use Rattle.std.proofs.lemmas.List.{take-append-drop, drop-drop, length-drop, length-take-le}
 use Rattle.std.proofs.Math.Seq.{take-append_seam, drop-append_seam}
 use Rattle.byteorder.specs.Numbers.{big_from-lt}
-use Rattle.tt_value.specs.Words.{big_endian, number}
-use Rattle.tt_value.specs.WordLaws.{AreBytes, length-big_endian, number-big_endian, drop-big_endian, big_endian-number_2, big_endian-number_4, big_endian-number_8, take_bytes, drop_bytes}
+use Rattle.tt_value.specs.BigEndian.{big_endian, number}
+use Rattle.tt_value.specs.BigEndianLaws.{AreBytes, length-big_endian, number-big_endian, drop-big_endian, big_endian-number_2, big_endian-number_4, big_endian-number_8, take_bytes, drop_bytes}
 use Rattle.tt_value.specs.Stored.{row_bytes, IsStorable, IsStored, IsCell}
 use Rattle.tt_value.specs.StoredLaws.{read_is_stored, stored_is_read}
 use Rattle.tt_value.specs.ReadingRows.{row_in}
-use Rattle.tt_value.specs.declared.TheConstants.{ROW_MAX}
+use Rattle.tt_value.specs.Limits.{row_most}
 use Rattle.tt_value.specs.declared.value.Row.{Row}
 use Rattle.tt_value.specs.declared.value.Cell.{Cell}
 use Rattle.tt_value.specs.declared.value.Cell.TheVariants.{Empty, Full}
 use Rattle.tt_record.specs.declared.entry.Entry.{Entry}
 use Rattle.tt_record.specs.declared.entry.Entry.TheVariants.{Change, Commit, Abort, Mark, Switch}
-use Rattle.tt_record.specs.Entries.{cell_bytes, entry_bytes, length_of, of_one_table, IsTransaction, IsChange, IsEntry, BeginsWith}
-use Rattle.tt_record.specs.Reading.{transaction_at, full_of, full_at, cell_at, with_second, with_first, cells_at, change_of, changed_at, with_transaction, change_at, switch_at, committed, aborted, entry_at}
+use Rattle.tt_record.specs.Entry.{cell_bytes, entry_bytes, length_of, of_one_table, IsTransaction, IsChange, IsEntry, BeginsWith}
+use Rattle.tt_record.specs.Read.{transaction_at, full_of, full_at, cell_at, with_second, with_first, cells_at, change_of, changed_at, with_transaction, change_at, switch_at, committed, aborted, entry_at}
 
 -- ---- tests
 
@@ -369,14 +369,14 @@ some_bytes (Abort t) = omega arith
 some_bytes Mark = omega arith
 some_bytes (Switch file) = omega arith
 
--- a row that can be stored has at most ROW_MAX bytes
-few_cell_bytes : (c : Cell) → IsCell c → length (cell_bytes c) ≤ ROW_MAX + 7
+-- a row that can be stored has at most row_most bytes
+few_cell_bytes : (c : Cell) → IsCell c → length (cell_bytes c) ≤ row_most + 7
 few_cell_bytes Empty range = omega arith
 few_cell_bytes (Full table row) range =
     let n = length (row_bytes row) in
     omega (arith, range.2.short, length-append (big_endian 4 table) (big_endian 2 n ++ row_bytes row), length-big_endian 4 table, length-append (big_endian 2 n) (row_bytes row), length-big_endian 2 n)
 
-pub few_bytes : (e : Entry) → IsEntry e → length_of e ≤ 2 * ROW_MAX + 27
+pub few_bytes : (e : Entry) → IsEntry e → length_of e ≤ 2 * row_most + 27
 few_bytes (Change t p a b) range =
     omega (arith, few_cell_bytes a range.before, few_cell_bytes b range.after, length-append (big_endian 8 t) (big_endian 4 p ++ (cell_bytes a ++ cell_bytes b)), length-big_endian 8 t, length-append (big_endian 4 p) (cell_bytes a ++ cell_bytes b), length-big_endian 4 p, length-append (cell_bytes a) (cell_bytes b))
 few_bytes (Commit t) range = omega (arith, length-big_endian 8 t)

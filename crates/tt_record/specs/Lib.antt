@@ -1,6 +1,7 @@
-pub mod Entries
-pub mod Reading
-pub mod Places
-pub mod PlaceLaws
-pub mod EntryLaws
 pub mod BodyLaws
+pub mod Entry
+pub mod EntryLaws
+pub mod Limits
+pub mod Place
+pub mod PlaceLaws
+pub mod Read

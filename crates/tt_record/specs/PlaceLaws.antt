@@ -3,9 +3,9 @@ use Rattle.std.proofs.Common.{◌≡◌, ◌≢◌, ◌≤◌, ◌<◌, ◌+◌,
 use Rattle.std.proofs.lemmas.Bool.{leb-true, ltb-true, lt-ltb, lt-leb}
 use Rattle.std.specs.Cmp.{nat_cmp_is}
 use Rattle.std.specs.Ordering.{ordering_then}
-use Rattle.tt_value.specs.Positions.{position_cmp}
+use Rattle.tt_value.specs.Position.{position_cmp}
 use Rattle.tt_value.specs.declared.position.Position.{Position}
-use Rattle.tt_record.specs.Places.{position, end_of, place_of}
+use Rattle.tt_record.specs.Place.{position, end_of, position_of}
 
 same_Some : (a b : Position) → Some a ≡ Some b → a ≡ b
 same_Some a b e = cc
@@ -17,13 +17,13 @@ abbrev numbered : Position → Option Position
 numbered at = if nat_lt at.file 1000000 then Some at else None
 
 -- an entry that fits stays in its file
-pub place_stays : (end : Position) (n size : ℕ) → end.file < 1000000 → end.offset + n ≤ size → place_of end n size ≡ Some end
+pub place_stays : (end : Position) (n size : ℕ) → end.file < 1000000 → end.offset + n ≤ size → position_of end n size ≡ Some end
 place_stays end n size file fits =
     ap (λ b. numbered (chosen b end)) (le-leb (end.offset + n) size fits)
     ∙ ap (λ b. if b then Some end else None) (lt-ltb end.file 1000000 file)
 
 -- one that doesn't begins the next file
-pub place_turns : (end : Position) (n size : ℕ) → end.file + 1 < 1000000 → size < end.offset + n → place_of end n size ≡ Some (position (end.file + 1) 0)
+pub place_turns : (end : Position) (n size : ℕ) → end.file + 1 < 1000000 → size < end.offset + n → position_of end n size ≡ Some (position (end.file + 1) 0)
 place_turns end n size file over =
     ap (λ b. numbered (chosen b end)) (lt-leb (end.offset + n) size over)
     ∙ ap (λ b. if b then Some (position (end.file + 1) 0) else None) (lt-ltb (end.file + 1) 1000000 file)
@@ -66,7 +66,7 @@ placed_at false end at n size is e =
       within = λ h. omega (arith, h);
     })
 
-pub placed : (end at : Position) (n size : ℕ) → place_of end n size ≡ Some at → Placed end at n size
+pub placed : (end at : Position) (n size : ℕ) → position_of end n size ≡ Some at → Placed end at n size
 placed end at n size e = placed_at (nat_le (end.offset + n) size) end at n size refl e
 
 -- an entry's end lies behind its place

@@ -1,3 +1,5 @@
+//! The entries of the log. A Change puts a cell into a place for a transaction; a Commit or an Abort ends the transaction; a
+//! Mark ends all that have no end; a Switch is the last entry of a file and names the next one.
 use tt_value::Cell;
 
 /// An entry of the log.

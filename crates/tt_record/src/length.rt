@@ -1,11 +1,12 @@
+//! How many bytes an entry has, without writing it.
 ghost use Rattle.std.specs.Prelude.{◌≡◌, ◌≤◌, ◌+◌, ◌*◌, length};
 ghost use Rattle.tt_value.specs.Stored.{IsCell};
-ghost use Rattle.tt_record.specs.Entries.{IsEntry, cell_bytes, length_of};
+ghost use Rattle.tt_record.specs.Entry.{IsEntry, cell_bytes, length_of};
 
 use crate::entry::Entry;
 use tt_value::{Cell, ROW_MAX, stored_length};
 
-#[tactic(auto, unfolding(tt_value::specs::Words::big_endian))]
+#[tactic(auto, unfolding(tt_value::specs::BigEndian::big_endian))]
 fn cell_length(cell: &Cell) -> u64
     requires { IsCell cell.now }
     ensures length { result ≡ length (cell_bytes cell.now) }
@@ -18,7 +19,7 @@ fn cell_length(cell: &Cell) -> u64
 }
 
 /// How many bytes an entry has: 1 to `2 * ROW_MAX + 27`.
-#[tactic(auto, unfolding(tt_value::specs::Words::big_endian))]
+#[tactic(auto, unfolding(tt_value::specs::BigEndian::big_endian))]
 pub fn entry_length(entry: &Entry) -> u64
     requires { IsEntry entry.now }
     ensures length { result ≡ length_of entry.now }

@@ -1,8 +1,9 @@
-// Entries from their bytes.
+//! An entry from the bytes that begin with it. Each field is read by a function of its own, which answers how many bytes it has; bytes
+//! that no entry has are told as none.
 ghost use Rattle.std.specs.Prelude.{◌≡◌, ◌≤◌, ◌+◌, length, drop, IfOk, IfSome, OnSome, Some};
 ghost use Rattle.tt_value.specs.ReadingRows.{row_in};
-ghost use Rattle.tt_record.specs.Entries.{BeginsWith, length_of, of_one_table};
-ghost use Rattle.tt_record.specs.Reading.{transaction_at, full_at, cell_at, cells_at, changed_at, change_at, switch_at, with_second, committed, aborted, entry_at};
+ghost use Rattle.tt_record.specs.Entry.{BeginsWith, length_of, of_one_table};
+ghost use Rattle.tt_record.specs.Read.{transaction_at, full_at, cell_at, cells_at, changed_at, change_at, switch_at, with_second, committed, aborted, entry_at};
 ghost use Rattle.tt_record.specs.declared.entry.Entry.{Entry};
 
 use crate::entry::Entry;
@@ -11,7 +12,7 @@ use std::alloc::{AllocError, Global};
 use tt_value::big_endian::{read_u16, read_u32, read_u64};
 use tt_value::{Cell, Row, read_row};
 
-#[tactic(auto, unfolding(crate::specs::Reading::transaction_at))]
+#[tactic(auto, unfolding(crate::specs::Read::transaction_at))]
 fn read_transaction(bytes: &[u8]) -> Option<u64>
     ensures value { result ≡ transaction_at bytes.now }
     ensures long { OnSome result (8 ≤ length bytes.now) }
@@ -33,7 +34,7 @@ fn row_of(alloc: Global, bytes: &[u8]) -> Result<Option<Row>, AllocError>
     read_row(alloc, bytes)
 }
 
-#[tactic(auto, unfolding(crate::specs::Reading::full_at))]
+#[tactic(auto, unfolding(crate::specs::Read::full_at))]
 fn read_full(alloc: Global, bytes: &[u8]) -> Result<Option<(Cell, usize)>, AllocError>
     ensures value { IfOk result (λ o. o ≡ full_at bytes.now) }
     ensures within { IfOk result (λ o. IfSome o (λ p. p.1 ≤ length bytes.now + 1)) }
@@ -53,7 +54,7 @@ fn read_full(alloc: Global, bytes: &[u8]) -> Result<Option<(Cell, usize)>, Alloc
 }
 
 // The cell at the front, and how many bytes it takes.
-#[tactic(auto, unfolding(crate::specs::Reading::cell_at))]
+#[tactic(auto, unfolding(crate::specs::Read::cell_at))]
 fn read_cell(alloc: Global, bytes: &[u8]) -> Result<Option<(Cell, usize)>, AllocError>
     ensures value { IfOk result (λ o. o ≡ cell_at bytes.now) }
     ensures within { IfOk result (λ o. IfSome o (λ p. p.1 ≤ length bytes.now)) }
@@ -107,7 +108,7 @@ fn read_second(
     }
 }
 
-#[tactic(auto, unfolding(crate::specs::Reading::cells_at))]
+#[tactic(auto, unfolding(crate::specs::Read::cells_at))]
 fn read_cells(alloc: Global, bytes: &[u8]) -> Result<Option<(Cell, Cell, usize)>, AllocError>
     ensures value { IfOk result (λ o. o ≡ cells_at bytes.now) }
     ensures within { IfOk result (λ o. IfSome o (λ p. p.2 ≤ length bytes.now)) }
@@ -118,7 +119,7 @@ fn read_cells(alloc: Global, bytes: &[u8]) -> Result<Option<(Cell, Cell, usize)>
     }
 }
 
-#[tactic(auto, unfolding(crate::specs::Reading::changed_at))]
+#[tactic(auto, unfolding(crate::specs::Read::changed_at))]
 fn read_changed(
     alloc: Global,
     transaction: u64,
@@ -148,7 +149,7 @@ fn read_changed(
     }
 }
 
-#[tactic(auto, unfolding(crate::specs::Reading::change_at))]
+#[tactic(auto, unfolding(crate::specs::Read::change_at))]
 fn read_change(alloc: Global, bytes: &[u8]) -> Result<Option<(Entry, usize)>, AllocError>
     ensures value { IfOk result (λ o. o ≡ change_at bytes.now) }
     ensures within { IfOk result (λ o. IfSome o (λ p. p.1 ≤ length bytes.now + 1)) }
@@ -179,7 +180,7 @@ fn read_abort(bytes: &[u8]) -> Option<(Entry, usize)>
     }
 }
 
-#[tactic(auto, unfolding(crate::specs::Reading::switch_at))]
+#[tactic(auto, unfolding(crate::specs::Read::switch_at))]
 fn read_switch(bytes: &[u8]) -> Option<(Entry, usize)>
     ensures value { result ≡ switch_at bytes.now }
     ensures within { IfSome result (λ p. p.1 ≤ length bytes.now + 1) }
@@ -195,7 +196,7 @@ fn read_switch(bytes: &[u8]) -> Option<(Entry, usize)>
     ))
 }
 
-#[tactic(auto, unfolding(crate::specs::Reading::entry_at))]
+#[tactic(auto, unfolding(crate::specs::Read::entry_at))]
 fn read_first(alloc: Global, bytes: &[u8]) -> Result<Option<(Entry, usize)>, AllocError>
     ensures first { IfOk result (λ o. o ≡ entry_at bytes.now) }
     ensures within { IfOk result (λ o. IfSome o (λ p. p.1 ≤ length bytes.now)) }

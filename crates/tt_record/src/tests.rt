@@ -1,3 +1,4 @@
+//! Entries and their places at the bounds of the format.
 use crate::{Entry, entry_end, entry_length, place_entry, read_entry, write_entry};
 use std::alloc::Global;
 use std::process::Abort;

@@ -1,15 +1,16 @@
-// The bytes of entries.
+//! The bytes of an entry: a byte for its kind, then its fields, numbers with their highest byte first. A reader needs no length:
+//! the fields say where the entry ends.
 ghost use Rattle.std.specs.Prelude.{◌≡◌, ◌≤◌, ◌+◌, ◌++◌, ◌∷◌, List, ℕ, length, drop, Some};
-ghost use Rattle.tt_value.specs.Words.{big_endian};
-ghost use Rattle.tt_record.specs.Entries.{IsEntry, full_bytes, cell_bytes, entry_bytes, length_of};
+ghost use Rattle.tt_value.specs.BigEndian.{big_endian};
+ghost use Rattle.tt_record.specs.Entry.{IsEntry, full_bytes, cell_bytes, entry_bytes, length_of, overlaid};
 ghost use Rattle.tt_value.specs.Stored.{IsCell, IsStorable, row_bytes};
-ghost use Rattle.tt_record.specs.Reading.{entry_at};
+ghost use Rattle.tt_record.specs.Read.{entry_at};
 
 use crate::entry::Entry;
 use tt_value::big_endian::{write_u16, write_u32, write_u64};
 use tt_value::{Cell, Row, stored_length, write_row_into};
 
-#[tactic(auto, unfolding(tt_value::specs::Words::big_endian))]
+#[tactic(auto, unfolding(tt_value::specs::BigEndian::big_endian))]
 fn write_full(table: u32, row: &Row, out: &mut [u8]) -> usize
     requires row { IsStorable row.now }
     requires room { length (full_bytes table row.now) ≤ length out.old }
@@ -38,7 +39,7 @@ fn write_cell(cell: &Cell, out: &mut [u8]) -> usize
     }
 }
 
-#[tactic(auto, unfolding(tt_value::specs::Words::big_endian))]
+#[tactic(auto, unfolding(tt_value::specs::BigEndian::big_endian))]
 fn write_numbers(transaction: u64, place: u32, out: &mut [u8])
     requires { 13 ≤ length out.old }
     ensures { out.new ≡ 1 ∷ (big_endian 8 transaction ++ (big_endian 4 place ++ drop 13 out.old)) }
@@ -53,8 +54,7 @@ fn write_cells(before: &Cell, after: &Cell, out: &mut [u8]) -> usize
     requires after { IsCell after.now }
     requires room { length (cell_bytes before.now ++ cell_bytes after.now) ≤ length out.old }
     ensures length { result ≡ length (cell_bytes before.now ++ cell_bytes after.now) }
-    ensures bytes { out.new ≡ (cell_bytes before.now ++ cell_bytes after.now)
-        ++ drop (length (cell_bytes before.now ++ cell_bytes after.now)) out.old }
+    ensures bytes { out.new ≡ overlaid (cell_bytes before.now ++ cell_bytes after.now) out.old }
 {
     let at = write_cell(before, out);
     at + write_cell(after, &mut out[at..])
@@ -69,7 +69,7 @@ fn write_ended(kind: u8, transaction: u64, out: &mut [u8])
 }
 
 /// Writes an entry at the front, and answers its length. It takes no memory.
-#[tactic(auto, unfolding(tt_value::specs::Words::big_endian))]
+#[tactic(auto, unfolding(tt_value::specs::BigEndian::big_endian))]
 pub fn write_entry(entry: &Entry, out: &mut [u8]) -> usize
     requires entry { IsEntry entry.now }
     requires room { length_of entry.now ≤ length out.old }

@@ -4,20 +4,21 @@ use Rattle.std.specs.Prelude.{IsOk}
 use Rattle.tt_disk.specs.declared.volume.Name.TheVariants.{Log as LogFile}
 use Rattle.tt_value.specs.declared.position.Position.{Position}
 use Rattle.tt_record.specs.declared.entry.Entry.{Entry}
-use Rattle.tt_record.specs.Places.{position}
+use Rattle.tt_record.specs.Place.{position}
 use Rattle.tt_log.specs.declared.refusal.LogRefusal.{LogRefusal}
-use Rattle.tt_log.specs.Walk.{Files, Found as Read, Part, file_read, on_part, walk, log_of}
-use Rattle.tt_log.specs.Starts.{is_place, has_place, where_place, started}
-use Rattle.tt_log.specs.Logs.{entries_in, forced_of, walk_end, unforced, write_of}
+use Rattle.tt_log.specs.Walk.{Files, LogContents as Read, Part, file_read, on_part, walk, log_of}
+use Rattle.tt_log.specs.Opening.{is_place, has_place, where_place, started}
+use Rattle.tt_log.specs.Log.{entries_in, forced_of, walk_end, unforced, write_position_of, first_file_of}
 use Rattle.tt_model.specs.Trail.{Trail}
 use Rattle.tt_model.specs.Committed.{no_cells}
 use Rattle.tt_model.specs.Live.{next_number}
 use Rattle.tt_model.specs.Standing.{standing}
 use Rattle.tt_recover.specs.declared.progress.Progress.{Progress}
 use Rattle.tt_recover.specs.declared.recovery.Recovered.{Recovered}
-use Rattle.tt_recover.specs.Opening.{laid_on, newest_first, found_by, found_in, opening}
-use Rattle.tt_recover.specs.Recoveries.{HasRead, IsRecovered}
-use Rattle.tt_recover.specs.Replays.{cell_shown}
+use Rattle.tt_recover.specs.Opening.{laid_on, newest_first, opened_from, opened_of, opening}
+use Rattle.tt_recover.specs.Progress.{HasRead}
+use Rattle.tt_recover.specs.Recovery.{IsRecovered}
+use Rattle.tt_recover.specs.Replay.{cell_shown}
 
 -- ---- the log from its beginning on
 
@@ -54,13 +55,13 @@ read_one progress progress' ps at entry read takes = subst (HasRead progress') (
 
 -- ---- what is recovered
 
-recovers_by : (x : Result Read LogRefusal) (r : Recovered) (old now : Files) → IsOk x → log_of 0 old ≡ x → log_of r.log.first now ≡ x
+recovers_by : (x : Result Read LogRefusal) (r : Recovered) (old now : Files) → IsOk x → log_of 0 old ≡ x → log_of (first_file_of r.log) now ≡ x
     → ((q : ℕ) → cell_shown r.rows.items q ≡ standing no_cells (newest_first (forced_of r.log now)) q) → r.next_transaction ≡ next_number 1 (newest_first (forced_of r.log now))
-    → write_of r.log ≡ walk_end (log_of r.log.first now) → unforced r.log ≡ [] → IsRecovered r old now
+    → write_position_of r.log ≡ walk_end (log_of (first_file_of r.log) now) → unforced r.log ≡ [] → IsRecovered r old now
 unfolding opening
 recovers_by (Ok read) r old now whole is same cells next end none = record {
-  found = found_by (newest_first read.entries) read.end;
-  is = ap found_in is;
+  found = opened_from (newest_first read.entries) read.end;
+  is = ap opened_of is;
   cells = λ q. cells q ∙ ap (λ (s : Result Read LogRefusal). standing no_cells (newest_first (entries_in s)) q) same;
   next = next ∙ ap (λ (s : Result Read LogRefusal). next_number 1 (newest_first (entries_in s))) same;
   end = end ∙ ap walk_end same;
@@ -69,11 +70,11 @@ recovers_by (Ok read) r old now whole is same cells next end none = record {
 }
 recovers_by (Err e) r old now whole is same cells next end none = absurd (let bad = whole in cc)
 
-pub recovers : (r : Recovered) (old now : Files) → IsOk (log_of r.log.first now) → log_of r.log.first now ≡ log_of 0 old
+pub recovers : (r : Recovered) (old now : Files) → IsOk (log_of (first_file_of r.log) now) → log_of (first_file_of r.log) now ≡ log_of 0 old
     → ((q : ℕ) → cell_shown r.rows.items q ≡ standing no_cells (newest_first (forced_of r.log now)) q) → r.next_transaction ≡ next_number 1 (newest_first (forced_of r.log now))
-    → write_of r.log ≡ walk_end (log_of r.log.first now) → unforced r.log ≡ [] → IsRecovered r old now
+    → write_position_of r.log ≡ walk_end (log_of (first_file_of r.log) now) → unforced r.log ≡ [] → IsRecovered r old now
 recovers r old now whole same cells next end none = recovers_by (log_of 0 old) r old now (subst (λ (x : Result Read LogRefusal). IsOk x) same whole) refl same cells next end none
 
 pub refused_opening : (files : Files) (e : LogRefusal) → started (position 0 0) files ≡ Err e → opening files ≡ Err e
 unfolding opening
-refused_opening files e is = ap found_in (sym (begun_log files) ∙ is)
+refused_opening files e is = ap opened_of (sym (begun_log files) ∙ is)

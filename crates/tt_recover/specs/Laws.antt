@@ -6,13 +6,13 @@ use Rattle.tt_value.specs.declared.value.Cell.{Cell}
 use Rattle.tt_record.specs.declared.entry.Entry.{Entry}
 use Rattle.tt_record.specs.declared.entry.Entry.TheVariants.{Change, Commit, Abort, Mark, Switch}
 use Rattle.tt_model.specs.Trail.{Trail, oldest}
-use Rattle.tt_model.specs.Committed.{Cells, no_cells, put, changed, changed_by, settled, committed, current}
+use Rattle.tt_model.specs.Committed.{Cells, no_cells, put, changed, changed_by, after_commit, committed, current}
 use Rattle.tt_model.specs.Live.{live, is_live, touched, after_number, next_number}
 use Rattle.tt_model.specs.Steady.{IsGrown}
 use Rattle.tt_model.specs.Standing.{is_end_of, is_ended, after_ended, before_unended, last_after, first_before, standing_at, standing}
-use Rattle.tt_model.specs.Laws.{CheckpointsOpen, OpeningFindsCommitted}
 use Rattle.tt_model.specs.Sound.{has_mark}
 use Rattle.tt_model.specs.StepLaws.{IsNumberedFrom, AreNumberedFrom}
+use Rattle.tt_model.proofs.Theorems.{checkpoints_open, opening_finds_committed}
 
 -- ---- numbers
 
@@ -174,7 +174,7 @@ none_changed f t q (e ∷ es) cells v ends none is =
     let parts = or_is_none (after_ended f q e.entry) (last_after f q es) none in
     ended_in f t q e.entry (changed_by t es cells) v ends (parts.0) (none_changed f t q es cells v ends (parts.1) is)
 
-none_settled : (f : ℕ → Bool) (q : ℕ) (x : Entry) (es : Trail) (cells : Cells) (v : Cell) → ((t : ℕ) → is_end_of t x ≡ true → f t ≡ true) → last_after f q es ≡ None → cells q ≡ v → settled x es cells q ≡ v
+none_settled : (f : ℕ → Bool) (q : ℕ) (x : Entry) (es : Trail) (cells : Cells) (v : Cell) → ((t : ℕ) → is_end_of t x ≡ true → f t ≡ true) → last_after f q es ≡ None → cells q ≡ v → after_commit x es cells q ≡ v
 none_settled f q (Change t p b a) es cells v ends none is = is
 none_settled f q (Commit t) es cells v ends none is = none_changed f t q es cells v (ends t (eq-eqb t t refl)) none is
 none_settled f q (Abort t) es cells v ends none is = is
@@ -206,19 +206,19 @@ same_value None None fe None c v is bare = is
 standing_as : (f : ℕ → Bool) (cell : Cell) (es : Trail) (q : ℕ) (l r : Option Cell) → last_after f q es ≡ l → first_before f q es ≡ r → standing_at f cell es q ≡ unwrap_or l (unwrap_or r cell)
 standing_as f cell es q l r is_l is_r = ap (λ o. unwrap_or o (unwrap_or (first_before f q es) cell)) is_l ∙ ap (λ o. unwrap_or l (unwrap_or o cell)) is_r
 
-alone : (law : OpeningFindsCommitted) (base : Cells) (q : ℕ) (es : Trail) → IsGrown base es → standing base es q ≡ committed base es q
+alone : (base : Cells) (q : ℕ) (es : Trail) → IsGrown base es → standing base es q ≡ committed base es q
 unfolding live current
-alone law base q es grown =
+alone base q es grown =
     let none : es ++ [] ≡ es = append-nil es in
-    law base base q [] es (subst (λ (t : Trail). IsGrown base t) (sym none) grown) (λ t h k. absurd (true≢false (sym h))) (λ h. refl)
+    opening_finds_committed base base q [] es (subst (λ (t : Trail). IsGrown base t) (sym none) grown) (λ t h k. absurd (true≢false (sym h))) (λ h. refl)
     ∙ ap (λ (t : Trail). committed base t q) none
 
 -- What an image and a log stand for, whatever stands in them, is the base of what is committed by entries that came behind it:
 -- opening finds what they committed over what it found before. `opened` is the image's own next number.
-pub image_opens_again : (law : OpeningFindsCommitted) (image : Cells) (opened : ℕ) (found entries : Trail) (q : ℕ) → IsGrown (standing image found) entries
+pub image_opens_again : (image : Cells) (opened : ℕ) (found entries : Trail) (q : ℕ) → IsGrown (standing image found) entries
     → AreNumberedFrom (next_number opened found) entries → standing image (entries ++ found) q ≡ committed (standing image found) entries q
 unfolding standing
-image_opens_again law image opened found es q grown numbered =
+image_opens_again image opened found es q grown numbered =
     let all = λ (t : ℕ). is_ended t (es ++ found) in
     let new = λ (t : ℕ). is_ended t es in
     let old = λ (t : ℕ). is_ended t found in
@@ -233,32 +233,32 @@ image_opens_again law image opened found es q grown numbered =
     ∙ ap (option_or (first_before old q found)) (late_first all new n q es numbered (λ t h. ended_late opened t es found h)) in
     standing_as all (image q) (es ++ found) q (option_or (last_after new q es) (last_after old q found)) (option_or (first_before old q found) (first_before new q es)) last first
     ∙ same_value (last_after new q es) (last_after old q found) (first_before new q es) (first_before old q found) (image q) (committed (standing image found) es q)
-    (alone law (standing image found) q es grown)
+    (alone (standing image found) q es grown)
     (λ h. none_committed new (standing image found) q es (λ t k. k) h)
 
-pub opens_again : (law : OpeningFindsCommitted) (found entries : Trail) (q : ℕ) → IsGrown (standing no_cells found) entries
+pub opens_again : (found entries : Trail) (q : ℕ) → IsGrown (standing no_cells found) entries
     → AreNumberedFrom (next_number 1 found) entries → standing no_cells (entries ++ found) q ≡ committed (standing no_cells found) entries q
-opens_again law found es q grown numbered = image_opens_again law no_cells 1 found es q grown numbered
+opens_again found es q grown numbered = image_opens_again no_cells 1 found es q grown numbered
 
 -- An image of which a place was copied at a moment behind its scan position: `older` are the entries before that position, `middle` those
 -- up to the copy, `newer` those behind it, as many as a crash leaves. It opens with what all of them committed. So two images that
 -- were completed open alike with each prefix that has the entries up to both.
-pub copied_image_opens : (law : OpeningFindsCommitted) (copies : CheckpointsOpen) (base image : Cells) (q : ℕ) (newer middle older : Trail) → IsGrown base ((newer ++ middle) ++ older)
+pub copied_image_opens : (base image : Cells) (q : ℕ) (newer middle older : Trail) → IsGrown base ((newer ++ middle) ++ older)
     → has_mark middle ≡ false → ((t : ℕ) → is_live t older ≡ true → touched t q older ≡ true → is_ended t (newer ++ middle) ≡ true) → image q ≡ current base (middle ++ older) q
     → standing image (newer ++ middle) q ≡ committed base ((newer ++ middle) ++ older) q
-copied_image_opens law copies base image q newer middle older grown unmarked ended copied =
-    law base image q older (newer ++ middle) grown ended (λ h. copied ∙ copies.copied base q newer middle older unmarked h)
+copied_image_opens base image q newer middle older grown unmarked ended copied =
+    opening_finds_committed base image q older (newer ++ middle) grown ended (λ h. copied ∙ checkpoints_open.copied base q newer middle older unmarked h)
 
-pub either_image_opens : (law : OpeningFindsCommitted) (copies : CheckpointsOpen) (base : Cells) (image : ℕ → Cells) (q : ℕ) (newer middle older : ℕ → Trail)
+pub either_image_opens : (base : Cells) (image : ℕ → Cells) (q : ℕ) (newer middle older : ℕ → Trail)
     → (newer 0 ++ middle 0) ++ older 0 ≡ (newer 1 ++ middle 1) ++ older 1
     → ((f : ℕ) → IsGrown base ((newer f ++ middle f) ++ older f)) → ((f : ℕ) → has_mark (middle f) ≡ false)
     → ((f t : ℕ) → is_live t (older f) ≡ true → touched t q (older f) ≡ true → is_ended t (newer f ++ middle f) ≡ true)
     → ((f : ℕ) → image f q ≡ current base (middle f ++ older f) q)
     → standing (image 0) (newer 0 ++ middle 0) q ≡ standing (image 1) (newer 1 ++ middle 1) q
-either_image_opens law copies base image q newer middle older one_trail grown unmarked ended copied =
-    copied_image_opens law copies base (image 0) q (newer 0) (middle 0) (older 0) (grown 0) (unmarked 0) (ended 0) (copied 0)
+either_image_opens base image q newer middle older one_trail grown unmarked ended copied =
+    copied_image_opens base (image 0) q (newer 0) (middle 0) (older 0) (grown 0) (unmarked 0) (ended 0) (copied 0)
     ∙ ap (λ (t : Trail). committed base t q) one_trail
-    ∙ sym (copied_image_opens law copies base (image 1) q (newer 1) (middle 1) (older 1) (grown 1) (unmarked 1) (ended 1) (copied 1))
+    ∙ sym (copied_image_opens base (image 1) q (newer 1) (middle 1) (older 1) (grown 1) (unmarked 1) (ended 1) (copied 1))
 
 -- ---- the first entries of them
 
@@ -279,10 +279,10 @@ pub numbered_oldest : (first n : ℕ) (entries : Trail) → AreNumberedFrom firs
 numbered_oldest first n es h = numbered_drop first (length es - n) es h
 
 -- The same of the first n entries that came behind it, as a crash may leave them.
-pub oldest_opens_again : (law : OpeningFindsCommitted) (found entries : Trail) (n q : ℕ) → IsGrown (standing no_cells found) entries
+pub oldest_opens_again : (found entries : Trail) (n q : ℕ) → IsGrown (standing no_cells found) entries
     → AreNumberedFrom (next_number 1 found) entries → standing no_cells (oldest n entries ++ found) q ≡ committed (standing no_cells found) (oldest n entries) q
-oldest_opens_again law found es n q grown numbered =
-    opens_again law found (oldest n es) q (grown_oldest (standing no_cells found) n es grown) (numbered_oldest (next_number 1 found) n es numbered)
+oldest_opens_again found es n q grown numbered =
+    opens_again found (oldest n es) q (grown_oldest (standing no_cells found) n es grown) (numbered_oldest (next_number 1 found) n es numbered)
 
 -- ---- the next transaction's number
 

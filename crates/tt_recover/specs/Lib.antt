@@ -1,8 +1,10 @@
+pub mod Calls
 pub mod Laws
+pub mod ModelLaws
 pub mod Opening
-pub mod Recoveries
-pub mod Replays
+pub mod Progress
+pub mod Recovery
+pub mod Replay
 pub mod VolumeLaws
 pub mod Volumes
 pub mod WalkLaws
-pub mod ModelLaws

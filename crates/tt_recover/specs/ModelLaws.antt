@@ -14,20 +14,21 @@ use Rattle.tt_gate.specs.Laws.{gated_bodies}
 use Rattle.tt_value.specs.declared.position.Position.{Position}
 use Rattle.tt_value.specs.declared.reply.Hold.{Hold}
 use Rattle.tt_record.specs.declared.entry.Entry.{Entry}
-use Rattle.tt_record.specs.Entries.{length_of}
-use Rattle.tt_record.specs.Places.{position}
-use Rattle.tt_record.specs.Reading.{entries_of}
+use Rattle.tt_record.specs.Entry.{length_of}
+use Rattle.tt_record.specs.Place.{position}
+use Rattle.tt_record.specs.Read.{entries_of}
 use Rattle.tt_log.specs.Lengths.{total}
 use Rattle.tt_log.specs.declared.refusal.LogRefusal.{LogRefusal}
 use Rattle.tt_log.specs.declared.refusal.LogRefusal.TheVariants.{Gap, BadBatch as BatchRefused, Failed, NoMemory as NoRoom}
-use Rattle.tt_log.specs.Walk.{Files, Part, Found as Read, after_turn, batch_read, before as put_before, bodies_read, chosen, file_most, file_read, in_front as found_in_front, is_last, log_header, log_of, no_switch, offset_behind, on_part, part_of, placed, same_bytes, turns, walk}
-use Rattle.tt_log.specs.Starts.{has_place, is_place, started, starts_at, where_place}
+use Rattle.tt_log.specs.Walk.{Files, Part, LogContents as Read, after_switch, batch_read, before as put_before, bodies_read, chosen, file_read, in_front as found_in_front, is_last, log_header, log_of, no_switch, offset_behind, on_part, part_of, placed, same_bytes, switches, walk}
+use Rattle.tt_log.specs.Limits.{FILE_MOST}
+use Rattle.tt_log.specs.Opening.{has_place, is_place, started, starts_at, where_place}
 use Rattle.tt_model.specs.Trail.{Trail, Placed as PlacedEntry, position_eq, position_lt}
 use Rattle.tt_model.specs.Live.{pages_named}
-use Rattle.tt_model.specs.Found.{Head, Found, newest_of, number_of, scan_of}
+use Rattle.tt_model.specs.Opened.{Head, Opened, newest_of, number_of, scan_of}
 use Rattle.tt_model.specs.Holds.{checkpoint_hold, holds_of, least_of}
 use Rattle.tt_model.specs.Prefix.{found_hold}
-use Rattle.tt_model.specs.Damages.{first_bad}
+use Rattle.tt_model.specs.Damage.{first_bad}
 use Rattle.tt_model.specs.Opening.{FilesRead, found_behind, found_from, have_one_number, held_by, is_in_file, opened_by, opening, with_entries, is_ahead as ahead_of}
 use Rattle.tt_model.specs.Standing.{log_of as trail_of}
 use Rattle.tt_model.specs.declared.damage.Damage.{Damage}
@@ -37,7 +38,7 @@ use Rattle.tt_recover.specs.declared.refusal.OpenRefusal.TheVariants.{NoDatabase
 use Rattle.tt_image.specs.declared.head.ImageHead.{ImageHead}
 use Rattle.tt_image.specs.declared.head.HeadRead.{HeadRead}
 use Rattle.tt_image.specs.declared.head.HeadRead.TheVariants.{Absent, Closed, Bad, Whole}
-use Rattle.tt_image.specs.Image.{has_form, head_of as header_of, head_read, is_good, is_head, is_whole}
+use Rattle.tt_image.specs.Head.{has_form, head_of as header_of, head_read, is_good, is_head, is_whole}
 use Rattle.tt_recover.specs.Opening.{laid_on, newest_first}
 use Rattle.tt_recover.specs.Volumes.{Placed, ahead_before, and_then, any_passes, beside_none, beside_whole, head_of, heads_in, one_head, opening_of, two_heads, first_bad_cell, from_newest, gate_where, image_of, is_ahead, older, older_read, or_refused, unless, unless_gate, with_older}
 use Rattle.tt_recover.specs.VolumeLaws.{older_parts, older_same, whole_walk}
@@ -269,7 +270,7 @@ before_parts es (Ok (more, t)) all turned is =
     record { more = more; is = ap (λ (q : List Entry × Bool). Ok (more, q.1)) both; sum = sym (ap (λ (q : List Entry × Bool). q.0) both) }
 before_parts es (Err e) all turned is = cc
 
-turn_empty : (part : Part) (all : List Entry) (turned : Bool) → after_turn part ≡ Ok (all, turned) → all ≡ []
+turn_empty : (part : Part) (all : List Entry) (turned : Bool) → after_switch part ≡ Ok (all, turned) → all ≡ []
 turn_empty (Ok p) all turned is =
     let pair : ◌≡◌ {A = List Entry × Bool} ([], true) (all, turned) = cc in
     sym (ap (λ (q : List Entry × Bool). q.0) pair)
@@ -296,25 +297,25 @@ empty_passes : (test : ℕ → Entry → Bool) (offset : ℕ) (all : List Entry)
 empty_passes test offset all is = ap (any_passes test offset) is
 
 last_by : (turn last : Bool) (test : ℕ → Entry → Bool) (n at next offset : ℕ) (more : Part) (all : List Entry) (turned : Bool)
-    → (if turn then (if last then after_turn more else Err (BatchRefused n next)) else Err (BatchRefused n at)) ≡ Ok (all, turned) → any_passes test offset all ≡ false
+    → (if turn then (if last then after_switch more else Err (BatchRefused n next)) else Err (BatchRefused n at)) ≡ Ok (all, turned) → any_passes test offset all ≡ false
 last_by true true test n at next offset more all turned is = empty_passes test offset all (turn_empty more all turned is)
 last_by true false test n at next offset more all turned is = cc
 last_by false last test n at next offset more all turned is = cc
 
 chosen_by : (plain turn last : Bool) (test : ℕ → Entry → Bool) (es : List Entry) (n at next offset : ℕ) (more : Part) (rest : Option ℕ) (all : List Entry) (turned : Bool)
     → ((ms : List Entry) (t : Bool) → more ≡ Ok (ms, t) → rest ≡ None → any_passes test (offset + total es) ms ≡ false)
-    → chosen plain turn last es n at next offset more ≡ Ok (all, turned) → gate_step test at offset (plain && nat_le (offset + total es) file_most) es rest ≡ None → any_passes test offset all ≡ false
-chosen_by true turn last test es n at next offset more rest all turned ih is gate = fits_by (nat_le (offset + total es) file_most) test es n at offset more rest all turned ih is gate
+    → chosen plain turn last es n at next offset more ≡ Ok (all, turned) → gate_step test at offset (plain && nat_le (offset + total es) FILE_MOST) es rest ≡ None → any_passes test offset all ≡ false
+chosen_by true turn last test es n at next offset more rest all turned ih is gate = fits_by (nat_le (offset + total es) FILE_MOST) test es n at offset more rest all turned ih is gate
 chosen_by false turn last test es n at next offset more rest all turned ih is gate = last_by turn last test n at next offset more all turned is
 
 gates_by : (o : Option (List Entry)) (test : ℕ → Entry → Bool) (n at next offset : ℕ) (rest_of : ℕ → Part) (gates_of : ℕ → Option ℕ) (last : Bool) (all : List Entry) (turned : Bool)
     → ((k : ℕ) (ms : List Entry) (t : Bool) → rest_of k ≡ Ok (ms, t) → gates_of k ≡ None → any_passes test k ms ≡ false)
     → batch_read n at next offset o last (rest_of (offset_behind offset o)) ≡ Ok (all, turned)
-    → ◌≡◌ {A = Option ℕ} (elim o [ None ↦ None | Some es ↦ if no_switch es && nat_le (offset + total es) file_most then (if any_passes test offset es then Some at else gates_of (offset + total es)) else None ]) None
+    → ◌≡◌ {A = Option ℕ} (elim o [ None ↦ None | Some es ↦ if no_switch es && nat_le (offset + total es) FILE_MOST then (if any_passes test offset es then Some at else gates_of (offset + total es)) else None ]) None
     → any_passes test offset all ≡ false
 gates_by None test n at next offset rest_of gates_of last all turned ih is gate = cc
 gates_by (Some es) test n at next offset rest_of gates_of last all turned ih is gate =
-    chosen_by (no_switch es) (turns n es) last test es n at next offset (rest_of (offset + total es)) (gates_of (offset + total es)) all turned (λ ms t went none. ih (offset + total es) ms t went none) is gate
+    chosen_by (no_switch es) (switches n es) last test es n at next offset (rest_of (offset + total es)) (gates_of (offset + total es)) all turned (λ ms t went none. ih (offset + total es) ms t went none) is gate
 
 gates_none : (test : ℕ → Entry → Bool) (n at offset : ℕ) (bodies : List (List ℕ)) (end : Part) (all : List Entry) (turned : Bool) → EndsEmpty end
     → bodies_read n at offset bodies end ≡ Ok (all, turned) → gate_where test at offset bodies ≡ None → any_passes test offset all ≡ false
@@ -420,7 +421,7 @@ newest_is : (b : Bool) (heads : ℕ → Option Head) (head : Head) → heads (if
 newest_is true heads head is = inr is
 newest_is false heads head is = inl is
 
-pub hold_not_behind : (bound : ℕ) (head : Head) (f : Found) → f.heads (newest_of f.heads) ≡ Some head → (found_hold bound f).file ≤ head.scan.file
+pub hold_not_behind : (bound : ℕ) (head : Head) (f : Opened) → f.heads (newest_of f.heads) ≡ Some head → (found_hold bound f).file ≤ head.scan.file
 unfolding holds_of
 hold_not_behind bound head f is =
     elim (newest_is (nat_lt (number_of (f.heads 0)) (number_of (f.heads 1))) f.heads head is) [
@@ -434,17 +435,17 @@ and_unless : {A B : Type 0} (o : Option Damage) (a : A) (next : A → Result B O
 and_unless None a next b is = is
 and_unless (Some d) a next b is = cc
 
-abbrev model_step : Files → (ℕ → Option Head) → Head → Option (List ℕ) → Trail × Position → ℕ → Option Found
+abbrev model_step : Files → (ℕ → Option Head) → Head → Option (List ℕ) → Trail × Position → ℕ → Option Opened
 model_step logs heads head file read pages = with_entries head (found_behind heads head (image_of pages file) read) (trail_of (entries_in logs) (held_by head (found_behind heads head (image_of pages file) read)).file)
 
-entries_by : (head : Head) (f : Found) (read : Trail × Position) → list_any (ahead_of head) read.0 ≡ false → nat_lt read.1.file head.scan.file ≡ false
+entries_by : (head : Head) (f : Opened) (read : Trail × Position) → list_any (ahead_of head) read.0 ≡ false → nat_lt read.1.file head.scan.file ≡ false
     → with_entries head f (Some read) ≡ Some (record f { entries = read.0; end = read.1 })
 entries_by head f read none reaches = λ i. if none i || reaches i then None else Some (record f { entries = read.0; end = read.1 })
 
 not_less : (a b : ℕ) → b ≤ a → nat_lt a b ≡ false
 not_less a b le = elim (leb_tells (suc a) b) [ inl less ↦ absurd (omega (arith, less.1, le)) | inr more ↦ more.0 ]
 
-pub opens_behind : (logs images : Files) (heads : ℕ → Option Head) (head : Head) (f : Found) → have_one_number heads ≡ false → heads (newest_of heads) ≡ Some head
+pub opens_behind : (logs images : Files) (heads : ℕ → Option Head) (head : Head) (f : Opened) → have_one_number heads ≡ false → heads (newest_of heads) ≡ Some head
     → head.scan.file < 1000000 → from_newest logs images heads (Some head) ≡ Ok f → opened_by (files_read heads logs images) (Some head) ≡ Some f
 opens_behind logs images heads head f one newest below is =
     let n = head.scan.file in
@@ -452,9 +453,9 @@ opens_behind logs images heads head f one newest below is =
     let a = and_parts (or_refused (started head.scan logs)) _ f is in
     let read : Read = a.0 in
     let st = start_by (has_place head.scan.offset (file_read n (logs (Log n)))) head.scan (log_of n logs) read (or_parts (started head.scan logs) read a.1) in
-    let f1 : Found = found_behind heads head (image_of head.pages file) (newest_first read.entries, read.end) in
-    let two = and_unless (first_bad_cell head.pages file) f1 (λ (g : Found). and_then (unless (first_bad (32 * pages_named head.pages g.entries) g.cells) g) (λ (h : Found). with_older head logs read h)) f a.2 in
-    let three = and_unless (first_bad (32 * pages_named head.pages f1.entries) f1.cells) f1 (λ (h : Found). with_older head logs read h) f two in
+    let f1 : Opened = found_behind heads head (image_of head.pages file) (newest_first read.entries, read.end) in
+    let two = and_unless (first_bad_cell head.pages file) f1 (λ (g : Opened). and_then (unless (first_bad (32 * pages_named head.pages g.entries) g.cells) g) (λ (h : Opened). with_older head logs read h)) f a.2 in
+    let three = and_unless (first_bad (32 * pages_named head.pages f1.entries) f1.cells) f1 (λ (h : Opened). with_older head logs read h) f two in
     let hold = held_by head f1 in
     let count = n - hold.file in
     let o = and_parts (or_refused (older head.next hold.file count logs)) _ f three in
@@ -473,7 +474,7 @@ opens_behind logs images heads head f one newest below is =
     ∙ ap (model_step logs heads head file (newest_first read.entries, read.end)) (ap pages_of newest)
     ∙ ap (with_entries head f1) back
     ∙ entries_by head f1 (newest_first (ps ++ read.entries), read.end) none (not_less read.end.file n own.1)
-    ∙ ap (λ (g : Found). Some g) u.1
+    ∙ ap (λ (g : Opened). Some g) u.1
 
 -- ---- the headers
 
@@ -555,13 +556,13 @@ whole_scan (Some file) h is =
     let good = all_true (has_form file && is_head (header_of file)) _ found.0 in
     subst (λ (k : ImageHead). k.scan.file ≤ 999999) found.1 (scan_by (header_of file) (all_true (has_form file) (is_head (header_of file)) good.0).1)
 
-from_none : (logs images : Files) (heads : ℕ → Option Head) (o : Option Head) (f : Found) → heads (newest_of heads) ≡ o → NotOne heads
+from_none : (logs images : Files) (heads : ℕ → Option Head) (o : Option Head) (f : Opened) → heads (newest_of heads) ≡ o → NotOne heads
     → ((head : Head) → heads (newest_of heads) ≡ Some head → head.scan.file < 1000000) → from_newest logs images heads o ≡ Ok f → opened_by (files_read heads logs images) o ≡ Some f
 from_none logs images heads None f newest one range is = cc
 from_none logs images heads (Some head) f newest one range is = opens_behind logs images heads head f one newest (range head newest) is
 
 -- What opening finds over both volumes is what the model's opening finds in the headers, cells and entries that they have.
-pub opens_as_model : (logs images : Files) (f : Found) → opening_of logs images ≡ Ok f
+pub opens_as_model : (logs images : Files) (f : Opened) → opening_of logs images ≡ Ok f
     → (heads : ℕ → Option Head) × (heads_in (head_read (images (Ds 0))) (head_read (images (Ds 1))) ≡ Ok heads) × (opening (files_read heads logs images) ≡ Some f)
 unfolding opening_of opening
 opens_as_model logs images f is =

@@ -9,23 +9,25 @@ use Rattle.tt_value.specs.declared.value.Cell.{Cell}
 use Rattle.tt_value.specs.declared.value.Cell.TheVariants.{Empty}
 use Rattle.tt_value.specs.declared.reply.Stop.TheVariants.{Logs}
 use Rattle.tt_record.specs.declared.entry.Entry.{Entry}
-use Rattle.tt_record.specs.Entries.{length_of}
-use Rattle.tt_record.specs.Reading.{entries_of}
+use Rattle.tt_record.specs.Entry.{length_of}
+use Rattle.tt_record.specs.Read.{entries_of}
 use Rattle.tt_log.specs.Lengths.{total}
 use Rattle.tt_log.specs.declared.refusal.LogRefusal.{LogRefusal}
 use Rattle.tt_log.specs.declared.refusal.LogRefusal.TheVariants.{Gap, BadBatch as BatchRefused, Failed, NoMemory as NoRoom}
-use Rattle.tt_log.specs.Starts.{started}
-use Rattle.tt_log.specs.Walk.{Files, Part, Found as Read, file_most, file_read, no_switch, placed}
+use Rattle.tt_log.specs.Opening.{started}
+use Rattle.tt_log.specs.Walk.{Files, Part, LogContents as Read, file_read, no_switch, placed}
+use Rattle.tt_log.specs.Limits.{FILE_MOST}
 use Rattle.tt_cells.specs.Limits.{CELL_BYTES}
 use Rattle.tt_cells.specs.ReadingCells.{cell_in, or_empty}
 use Rattle.tt_image.specs.declared.head.ImageHead.{ImageHead}
 use Rattle.tt_image.specs.declared.head.HeadRead.{HeadRead}
 use Rattle.tt_image.specs.declared.head.HeadRead.TheVariants.{Absent, Closed, Bad, Whole}
-use Rattle.tt_image.specs.Image.{head_read, page_of}
+use Rattle.tt_image.specs.Head.{head_read}
+use Rattle.tt_image.specs.Pages.{page_of}
 use Rattle.tt_model.specs.Committed.{Cells}
 use Rattle.tt_model.specs.Live.{after_number, pages_named}
-use Rattle.tt_model.specs.Found.{Head, Found, newest_of}
-use Rattle.tt_model.specs.Damages.{first_bad}
+use Rattle.tt_model.specs.Opened.{Head, Opened, newest_of}
+use Rattle.tt_model.specs.Damage.{first_bad}
 use Rattle.tt_model.specs.Opening.{found_behind, held_by}
 use Rattle.tt_model.specs.declared.damage.Damage.{Damage}
 use Rattle.tt_model.specs.declared.damage.Damage.TheVariants.{NoImage, BadHeader, LogGap, BadBatch, BadCell}
@@ -122,7 +124,7 @@ gate_where test at offset [] = None
 gate_where test at offset (body ∷ bodies) =
     elim (entries_of body) [
       | None ↦ None
-      | Some es ↦ if no_switch es && nat_le (offset + total es) file_most
+      | Some es ↦ if no_switch es && nat_le (offset + total es) FILE_MOST
           then (if any_passes test offset es then Some at else gate_where test (at + 9 + length body) (offset + total es) bodies) else None
     ]
 
@@ -163,23 +165,23 @@ ahead_before head logs =
       | Some at ↦ Some (BadBatch head.scan.file at)
     ]
 
-abbrev pub with_older : Head → Files → Read → Found → Result Found OpenRefusal
+abbrev pub with_older : Head → Files → Read → Opened → Result Opened OpenRefusal
 with_older head logs read f =
     let hold = held_by head f in
     and_then (or_refused (older head.next hold.file (head.scan.file - hold.file) logs)) (λ ps. unless (ahead_before head logs) (record f { entries = newest_first (ps ++ read.entries) }))
 
 -- ---- all of it
 
-abbrev pub behind_image : Files → (ℕ → Option Head) → Head → Option (List ℕ) → Result Found OpenRefusal
+abbrev pub behind_image : Files → (ℕ → Option Head) → Head → Option (List ℕ) → Result Opened OpenRefusal
 behind_image logs heads head file =
     and_then (or_refused (started head.scan logs)) (λ read.
     and_then (unless (first_bad_cell head.pages file) (found_behind heads head (image_of head.pages file) (newest_first read.entries, read.end))) (λ f.
     and_then (unless (first_bad (32 * pages_named head.pages f.entries) f.cells) f) (λ f'. with_older head logs read f')))
 
-abbrev pub from_newest : Files → Files → (ℕ → Option Head) → Option Head → Result Found OpenRefusal
+abbrev pub from_newest : Files → Files → (ℕ → Option Head) → Option Head → Result Opened OpenRefusal
 from_newest logs images heads None = Err (Damaged NoImage)
 from_newest logs images heads (Some head) = behind_image logs heads head (images (Ds (newest_of heads)))
 
 -- What opening finds.
-unfoldable pub opening_of : Files → Files → Result Found OpenRefusal
+unfoldable pub opening_of : Files → Files → Result Opened OpenRefusal
 opening_of logs images = and_then (heads_in (head_read (images (Ds 0))) (head_read (images (Ds 1)))) (λ heads. from_newest logs images heads (heads (newest_of heads)))

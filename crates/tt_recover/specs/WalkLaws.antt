@@ -8,18 +8,19 @@ use Rattle.tt_gate.specs.Gate.{gated, whole_bodies}
 use Rattle.tt_value.specs.declared.position.Position.{Position}
 use Rattle.tt_record.specs.declared.entry.Entry.{Entry}
 use Rattle.tt_record.specs.declared.entry.Entry.TheVariants.{Change, Commit, Abort, Mark, Switch}
-use Rattle.tt_record.specs.Entries.{length_of}
-use Rattle.tt_record.specs.Places.{position}
-use Rattle.tt_record.specs.Reading.{entries_of}
+use Rattle.tt_record.specs.Entry.{length_of}
+use Rattle.tt_record.specs.Place.{position}
+use Rattle.tt_record.specs.Read.{entries_of}
 use Rattle.tt_log.specs.Lengths.{total}
 use Rattle.tt_log.specs.declared.refusal.LogRefusal.{LogRefusal}
 use Rattle.tt_log.specs.declared.refusal.LogRefusal.TheVariants.{BadBatch, Gap}
-use Rattle.tt_log.specs.Walk.{Files, Part, Found as Read, after_turn, batch_read, before as put_before, bodies_read, chosen, file_read, in_front, is_last, is_switch, log_header, log_of, no_switch, offset_behind, on_part, part_of, placed, same_bytes, turns, walk}
+use Rattle.tt_log.specs.Walk.{Files, Part, LogContents as Read, after_switch, batch_read, before as put_before, bodies_read, chosen, file_read, in_front, is_last, is_switch, log_header, log_of, no_switch, offset_behind, on_part, part_of, placed, same_bytes, switches, walk}
 use Rattle.tt_model.specs.Trail.{Trail}
 use Rattle.tt_model.specs.Standing.{laid, named_next, walked, log_of as trail_of}
-use Rattle.tt_recover.specs.Opening.{found_by, found_in, laid_on, newest_first, opening}
-use Rattle.tt_model.specs.Found.{Found}
-use Rattle.tt_model.specs.Opening.{FirstImagesOpen, first_files, opening as model_opening}
+use Rattle.tt_recover.specs.Opening.{opened_from, opened_of, laid_on, newest_first, opening}
+use Rattle.tt_model.specs.Opened.{Opened}
+use Rattle.tt_model.specs.Opening.{first_files, opening as model_opening}
+use Rattle.tt_model.proofs.Theorems.{first_images_open}
 
 -- a file's entries as they were read, the Switch that ends them among them
 abbrev pub entries_read : ℕ → Part → Option (List Entry)
@@ -47,7 +48,7 @@ plain_before : (es : List Entry) (part : Part) → no_switch es ≡ true → IsP
 plain_before es (Ok part) a b = plain_append es part.0 a b
 plain_before es (Err e) a b = tt
 
-plain_turn : (part : Part) → IsPlain (after_turn part)
+plain_turn : (part : Part) → IsPlain (after_switch part)
 plain_turn (Ok part) = refl
 plain_turn (Err e) = tt
 
@@ -55,7 +56,7 @@ plain_fits : (b : Bool) (es : List Entry) (n at : ℕ) (more : Part) → no_swit
 plain_fits true es n at more a b = plain_before es more a b
 plain_fits false es n at more a b = tt
 
-plain_last : (turn last : Bool) (n at next : ℕ) (more : Part) → IsPlain (if turn then (if last then after_turn more else Err (BadBatch n next)) else Err (BadBatch n at))
+plain_last : (turn last : Bool) (n at next : ℕ) (more : Part) → IsPlain (if turn then (if last then after_switch more else Err (BadBatch n next)) else Err (BadBatch n at))
 plain_last true true n at next more = plain_turn more
 plain_last true false n at next more = tt
 plain_last false last n at next more = tt
@@ -66,7 +67,7 @@ plain_chosen false turn last es n at next offset more is rest = plain_last turn 
 
 plain_batch : (n at next offset : ℕ) (o : Option (List Entry)) (last : Bool) (more : Part) → IsPlain more → IsPlain (batch_read n at next offset o last more)
 plain_batch n at next offset None last more rest = tt
-plain_batch n at next offset (Some es) last more rest = plain_chosen (no_switch es) (turns n es) last es n at next offset more refl rest
+plain_batch n at next offset (Some es) last more rest = plain_chosen (no_switch es) (switches n es) last es n at next offset more refl rest
 
 plain_bodies : (n at offset : ℕ) (bodies : List (List ℕ)) (end : Part) → IsPlain end → IsPlain (bodies_read n at offset bodies end)
 plain_bodies n at offset [] end is = is
@@ -216,12 +217,12 @@ unfolding log_of trail_of
 walks_tie n logs read is = walk_ties (1000000 - n) 1000000 logs (omega arith) n [] read is
 
 -- Opening the log alone finds what the model's opening finds in its entries, behind the empty image of a database that was just created.
-pub log_opens_as_model : (law : FirstImagesOpen) (logs : Files) (f : Found) → opening logs ≡ Ok f → model_opening (first_files 1 (entries_in logs)) ≡ Some f
+pub log_opens_as_model : (logs : Files) (f : Opened) → opening logs ≡ Ok f → model_opening (first_files 1 (entries_in logs)) ≡ Some f
 unfolding opening
-log_opens_as_model law logs f is = by (log_of 0 logs) refl is
+log_opens_as_model logs f is = by (log_of 0 logs) refl is
   where
-    by : (r : Result Read LogRefusal) → log_of 0 logs ≡ r → found_in r ≡ Ok f → model_opening (first_files 1 (entries_in logs)) ≡ Some f
+    by : (r : Result Read LogRefusal) → log_of 0 logs ≡ r → opened_of r ≡ Ok f → model_opening (first_files 1 (entries_in logs)) ≡ Some f
     by (Ok read) walk found =
-        let same : Some (found_by (newest_first read.entries) read.end) ≡ Some f = cc in
-        law 1 (entries_in logs) (newest_first read.entries) read.end (walks_tie 0 logs read walk) ∙ same
+        let same : Some (opened_from (newest_first read.entries) read.end) ≡ Some f = cc in
+        first_images_open 1 (entries_in logs) (newest_first read.entries) read.end (walks_tie 0 logs read walk) ∙ same
     by (Err e) walk found = cc

@@ -10,4 +10,4 @@ mod tests;
 
 pub use recovery::{Recovered, recover};
 pub use refusal::OpenRefusal;
-pub use replay::{FoundRow, Replay};
+pub use replay::{RecoveredRow, Replay};

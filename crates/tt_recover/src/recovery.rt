@@ -1,16 +1,20 @@
-// A log read from its beginning to its end.
+//! A log read from its beginning to its end, once. What it stands for is known only at its end: a change counts where its transaction has
+//! ended well.
 ghost use Rattle.std.specs.Prelude.{◌≡◌, ◌⊎◌, ◌≤◌, ◌^◌, length, IfOk, IfErr, IsErrOf, Err};
-ghost use Rattle.tt_disk.specs.Causes.{RoseWhere};
+ghost use Rattle.tt_record.specs.Limits.{transactions_end};
+ghost use Rattle.tt_recover.specs.Calls.{KeepsLogOn, OpensLogOn, RecoversOn, RefusesOn};
+ghost use Rattle.tt_disk.specs.Calls.{KeepsFiles};
+ghost use Rattle.tt_disk.specs.Faults.{RoseWhere};
 ghost use Rattle.tt_disk.specs.Volume.{Keeps};
 ghost use Rattle.tt_log.specs.declared.refusal.LogRefusal.TheVariants.{Failed, NoMemory};
 ghost use Rattle.tt_log.specs.Walk.{log_of};
-ghost use Rattle.tt_log.specs.Logs.{IsOpen, LeavesForced, LeavesThis, waiting_bytes, write_of};
+ghost use Rattle.tt_log.specs.Log.{IsOpen, CrashLeavesForced, CrashLeavesLog, waiting_bytes, write_position_of, first_file_of, force_position_of, file_size_of, buffer_size_of};
 ghost use Rattle.tt_recover.specs.Opening.{opening};
-ghost use Rattle.tt_recover.specs.Replays.{AreInOrder};
-ghost use Rattle.tt_recover.specs.Recoveries.{IsRecovered};
+ghost use Rattle.tt_recover.specs.Replay.{AreInOrder};
+ghost use Rattle.tt_recover.specs.Recovery.{IsRecovered};
 
 use crate::progress::Progress;
-use crate::replay::FoundRow;
+use crate::replay::RecoveredRow;
 use std::alloc::Global;
 use tt_disk::Volume;
 use tt_log::{Log, LogRefusal};
@@ -20,7 +24,7 @@ use tt_value::Position;
 #[derive(Drop)]
 pub struct Recovered {
     pub log: Log,
-    pub rows: Vec<FoundRow>,
+    pub rows: Vec<RecoveredRow>,
     pub next_transaction: u64,
 }
 
@@ -37,25 +41,24 @@ pub fn recover<V: Volume>(
 ) -> Result<Recovered, LogRefusal>
     requires file_size { (8192 ≤ log_file_size) × (log_file_size ≤ 67108864) }
     requires buffer_size { (4096 ≤ log_buf_size) × (log_buf_size ≤ 1048576) }
-    ensures found { V.told → IfOk result (λ r. IsRecovered r (V.now volume.old) (V.now volume.new)) }
-    ensures refused { V.told → IfErr result (λ e. (e ≡ Failed) ⊎ ((e ≡ NoMemory) ⊎ (opening (V.now volume.old) ≡ Err e))) }
-    ensures open { V.told → IfOk result (λ r. IsOpen r.log (V.now volume.new) (V.may volume.new)) }
+    ensures found { RecoversOn V.Volume volume.old volume.new result }
+    ensures refused { RefusesOn V.Volume volume.old result }
+    ensures open { OpensLogOn V.Volume volume.new result }
 
     // Where every crash could leave the log as it reads, it still does.
-    ensures kept { V.told → LeavesThis 0 (log_of 0 (V.now volume.old)) (V.may volume.old)
-        → IfOk result (λ r. LeavesForced r.log (V.now volume.new) (V.may volume.new)) }
+    ensures kept { KeepsLogOn V.Volume volume.old volume.new result }
     ensures ordered { IfOk result (λ r. AreInOrder r.rows.items) }
-    ensures numbers { IfOk result (λ r. (1 ≤ r.next_transaction) × (r.next_transaction ≤ 2 ^ 48)) }
-    ensures first { IfOk result (λ r. r.log.first ≡ 0) }
+    ensures numbers { IfOk result (λ r. (1 ≤ r.next_transaction) × (r.next_transaction ≤ transactions_end)) }
+    ensures first { IfOk result (λ r. first_file_of r.log ≡ 0) }
     ensures waiting { IfOk result (λ r. waiting_bytes r.log ≡ 0) }
-    ensures force { IfOk result (λ r. r.log.force ≡ write_of r.log) }
-    ensures sizes { IfOk result (λ r. (r.log.file_size ≡ log_file_size) × (length r.log.buffer.items ≡ log_buf_size)) }
-    ensures keeps { V.told → Keeps (V.now volume.old) (V.now volume.new) (V.may volume.old) (V.may volume.new) }
+    ensures force { IfOk result (λ r. force_position_of r.log ≡ write_position_of r.log) }
+    ensures sizes { IfOk result (λ r. (file_size_of r.log ≡ log_file_size) × (buffer_size_of r.log ≡ log_buf_size)) }
+    ensures keeps { KeepsFiles V.Volume volume.old volume.new }
     ensures cause { RoseWhere V.exact (IsErrOf result Failed) (V.faults volume.old) (V.faults volume.new) }
 {
     let origin = Position { file: 0, offset: 0 };
     let mut progress = Progress::new(alloc);
-    let log = match Log::start_giving(
+    let log = match Log::start_with(
         alloc,
         volume,
         origin,

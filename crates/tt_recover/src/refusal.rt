@@ -1,4 +1,4 @@
-// Why a database can't be opened.
+//! Why a database can't be opened.
 use tt_model::Damage;
 use tt_value::Stop;
 

@@ -1,11 +1,11 @@
-// What a log's entries leave in the places.
+//! What the entries of a log leave in the places: the last change of each by a transaction that has ended well.
 ghost use Rattle.std.specs.Prelude.{◌≡◌, ◌∷◌, [], OnOk, OnErr, IfOk, ℕ, None, unwrap_or};
 ghost use Rattle.tt_value.specs.declared.position.Position.{Position};
 ghost use Rattle.tt_value.specs.declared.value.Cell.TheVariants.{Empty};
 ghost use Rattle.tt_model.specs.Trail.{Trail};
 ghost use Rattle.tt_model.specs.Committed.{no_cells};
 ghost use Rattle.tt_model.specs.Standing.{standing};
-ghost use Rattle.tt_recover.specs.Replays.{HasTaken, AreInOrder, cell_shown, changes_in, laid, laid_one, rows_in};
+ghost use Rattle.tt_recover.specs.Replay.{HasTaken, AreInOrder, cell_shown, changes_in, laid, laid_one, rows_in, ShowTrail};
 ghost use Rattle.std.specs.BTreeMap.{get};
 ghost use Rattle.std.specs.BTreeSet.{contains};
 ghost use Rattle.std.specs.Ordering.{nat_cmp};
@@ -17,7 +17,7 @@ use tt_value::{Cell, Row};
 
 /// A row that was found in a place: `place` is its number, `table` the id of its table.
 #[derive(Debug, Drop)]
-pub struct FoundRow {
+pub struct RecoveredRow {
     pub place: u32,
     pub table: u32,
     pub row: Row,
@@ -79,14 +79,14 @@ fn lay_all(
 }
 
 // The rows in the cells.
-fn rows_of(alloc: Global, cells: BTreeMap<u32, Cell>) -> Result<Vec<FoundRow>, AllocError>
+fn rows_of(alloc: Global, cells: BTreeMap<u32, Cell>) -> Result<Vec<RecoveredRow>, AllocError>
     ensures shown { IfOk result (λ rows. (q : ℕ) → cell_shown rows.items q ≡ unwrap_or (get nat_cmp cells q) Empty) }
     ensures ordered { IfOk result (λ rows. AreInOrder rows.items) }
 {
     let mut rows = Vec::new(alloc);
     for (place, cell) in cells {
         if let Cell::Full { table, row } = cell {
-            rows.push(FoundRow { place, table, row })?;
+            rows.push(RecoveredRow { place, table, row })?;
         }
     }
     Ok(rows)
@@ -136,8 +136,8 @@ impl Replay {
 
     /// The rows that the entries leave in places, behind an image without a row: at each place the last row after of an ended
     /// transaction, else the first row before of one that isn't. They are in the order of their places.
-    pub fn finish(self) -> Result<Vec<FoundRow>, AllocError>
-        ensures found { (trail : Trail) → HasTaken self trail → IfOk result (λ rows. (q : ℕ) → cell_shown rows.items q ≡ standing no_cells trail q) }
+    pub fn finish(self) -> Result<Vec<RecoveredRow>, AllocError>
+        ensures found { (trail : Trail) → HasTaken self trail → IfOk result (λ rows. ShowTrail rows.items trail) }
         ensures ordered { IfOk result (λ rows. AreInOrder rows.items) }
     {
         let Replay { changes, ended } = self;

@@ -1,9 +1,10 @@
+//! Logs, and the rows that opening finds in them.
 ghost use Rattle.std.specs.Prelude.{◌≡◌, OnOk, false};
-ghost use Rattle.tt_record.specs.Entries.{IsEntry};
-ghost use Rattle.tt_log.specs.Logs.{IsOpen};
+ghost use Rattle.tt_record.specs.Entry.{IsEntry};
+ghost use Rattle.tt_log.specs.Log.{IsOpen};
 ghost use Rattle.tt_log.specs.Walk.{is_switch};
 
-use crate::{FoundRow, Replay, recover};
+use crate::{RecoveredRow, Replay, recover};
 use std::alloc::Global;
 use std::process::Abort;
 use std::test::Fail;
@@ -73,7 +74,7 @@ fn take_change(
 }
 
 // Asserts that the rows lie at these places.
-fn expect_places(rt: &impl Abort, rows: &[FoundRow], places: &[u32]) {
+fn expect_places(rt: &impl Abort, rows: &[RecoveredRow], places: &[u32]) {
     assert_eq!(rt; rows.len(), places.len());
     for (row, place) in rows.iter().zip(places) {
         assert_eq!(rt; row.place, *place);

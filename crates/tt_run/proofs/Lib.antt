@@ -1,3 +1,4 @@
+pub mod FaultLemmas
 pub mod OpenLemmas
 pub mod RunLemmas
 pub mod SettingsLemmas

@@ -4,19 +4,19 @@ use Rattle.std.specs.Prelude.{IfSome, IsSome, option_map, take}
 use Rattle.tt_flow.specs.Script.{ended_lines, script_most}
 use Rattle.tt_disk.specs.Volume.{Keeps, size_of}
 use Rattle.tt_disk.specs.declared.volume.Name.TheVariants.{Log as LogFile}
-use Rattle.tt_gate.specs.Standing.{LeavesAtMost}
+use Rattle.tt_gate.specs.GateFile.{CrashLeavesAtMost}
 use Rattle.tt_value.specs.declared.reply.Stop.TheVariants.{Logs}
 use Rattle.tt_value.specs.declared.position.Position.{Position}
 use Rattle.tt_set.specs.declared.settings.Settings.{Settings}
 use Rattle.tt_log.specs.declared.refusal.LogRefusal.{LogRefusal}
 use Rattle.tt_log.specs.declared.refusal.LogRefusal.TheVariants.{Gap}
-use Rattle.tt_log.specs.Walk.{Files, Found as Read, log_of, nothing}
-use Rattle.tt_log.specs.Logs.{LeavesThis, MayLeave}
-use Rattle.tt_model.specs.Found.{Found}
+use Rattle.tt_log.specs.Walk.{Files, LogContents as Read, log_of, nothing}
+use Rattle.tt_log.specs.Log.{CrashLeavesLog, MayLeave}
+use Rattle.tt_model.specs.Opened.{Opened}
 use Rattle.tt_model.specs.State.{State, with_entry}
-use Rattle.tt_record.specs.Places.{position}
+use Rattle.tt_record.specs.Place.{position}
 use Rattle.tt_model.specs.Trail.{Trail}
-use Rattle.tt_recover.specs.Opening.{found_by, found_in, newest_first, opening}
+use Rattle.tt_recover.specs.Opening.{opened_from, opened_of, newest_first, opening}
 use Rattle.tt_engine.specs.OpeningLaws.{database_found, database_opens, found_is, no_file, read_is, there}
 use Rattle.tt_engine.specs.Prefixes.{IsSinceOpening, IsStill, opens, or_none}
 use Rattle.tt_journal.specs.LogTrail.{ChangesFrom}
@@ -25,10 +25,11 @@ use Rattle.tt_model.specs.Run.{begun}
 use Rattle.tt_engine.specs.declared.refusal.OpenRefusal.{OpenRefusal}
 use Rattle.tt_run.specs.declared.status.Status.{Status}
 use Rattle.tt_run.specs.declared.status.Status.TheVariants.{Done, ScriptFault, AttributesFault, SinkFault, VolumeFault, NoMemory, Usage, Exists, BadAttribute, LogOut, ScriptTooLong}
-use Rattle.tt_run.specs.Openings.{EndedEarly, HasNewDatabase, IsBeforeLines, IsCreated, IsFaultOf, IsOpened, IsScriptRunEnd, LeavesNoOther, LeavesNoLog, mark_place, new_database}
+use Rattle.tt_run.specs.Openings.{EndedEarly, HasNewDatabase, IsBeforeLines, IsCreated, IsOpened, IsScriptRunEnd, LeavesNoOther, LeavesNoLog, mark_place, new_database}
 use Rattle.tt_run.specs.Loops.{IsRunEnd}
-use Rattle.tt_run.specs.Runs.{IsRun, IsRunFrom}
+use Rattle.tt_run.specs.Run.{IsRun, IsRunFrom, streams}
 use Rattle.tt_run.proofs.RunLemmas.{Outcomes, run_changes, run_still, run_under}
+use Rattle.tt_disk.specs.declared.volume.Volume.{Ghosts}
 
 -- a database that is refused is one whose log is damaged
 pub record IsDamagedLog (files : Files) : Type 0 where
@@ -39,8 +40,8 @@ pub refused_log : (files : Files) (refusal : OpenRefusal) → database files ≡
 unfolding opening
 refused_log files refusal is = by (files (LogFile 0)) (opening files) refl refl is
   where
-    by : (o : Option (List ℕ)) (r : Result Found LogRefusal) → files (LogFile 0) ≡ o → opening files ≡ r → opened_in o r ≡ Err refusal → IsDamagedLog files
-    by None r file log refused = record { refusal = Gap 0; is = ap found_in (no_file files file) }
+    by : (o : Option (List ℕ)) (r : Result Opened LogRefusal) → files (LogFile 0) ≡ o → opening files ≡ r → opened_in o r ≡ Err refusal → IsDamagedLog files
+    by None r file log refused = record { refusal = Gap 0; is = ap opened_of (no_file files file) }
     by (Some f) (Ok found) file log refused = cc
     by (Some f) (Err e) file log refused = record { refusal = e; is = log }
 
@@ -48,13 +49,13 @@ refused_log files refusal is = by (files (LogFile 0)) (opening files) refl refl 
 
 database_new : (files : Files) → log_of 0 files ≡ Ok nothing → database files ≡ Ok new_database
 unfolding opening
-database_new files is = ap₂ opened_in (there files nothing is).is (ap found_in is)
+database_new files is = ap₂ opened_in (there files nothing is).is (ap opened_of is)
 
 opens_new : (files : Files) → log_of 0 files ≡ Ok nothing → opens files ≡ Some new_database
 unfolding opening
-opens_new files is = ap (λ (r : Result Read LogRefusal). or_none (found_in r)) is
+opens_new files is = ap (λ (r : Result Read LogRefusal). or_none (opened_of r)) is
 
-pub new_made : (now : Files) (may : Outcomes) → log_of 0 now ≡ Ok nothing → ((k : ℕ) → 0 < k → k < 2 ^ 32 → now (LogFile k) ≡ None) → LeavesThis 0 (Ok nothing) may → HasNewDatabase now may
+pub new_made : (now : Files) (may : Outcomes) → log_of 0 now ≡ Ok nothing → ((k : ℕ) → 0 < k → k < 2 ^ 32 → now (LogFile k) ≡ None) → CrashLeavesLog 0 (Ok nothing) may → HasNewDatabase now may
 new_made now may made alone leaves = (database_new now made, alone, (new_database, opens_new now made, λ files left. opens_new files (leaves files left) ∙ sym (opens_new now made)))
 
 -- a file that was sized and isn't there
@@ -70,7 +71,7 @@ pub made_done : (o : Option (List ℕ)) (now : Files) (may : Outcomes) → o ≡
 made_done None now may none made = (made, made)
 made_done (Some f) now may none made = cc
 
-pub none_left : (may : Outcomes) → LeavesNoLog may → (files : Files) → MayLeave may files → (found : Found) → opening files ≡ Ok found → found ≡ new_database
+pub none_left : (may : Outcomes) → LeavesNoLog may → (files : Files) → MayLeave may files → (found : Opened) → opening files ≡ Ok found → found ≡ new_database
 none_left may none files left found is =
     let read = read_is files found is in
     let refused : log_of 0 files ≡ Err (Gap 0) = no_file files (none (files (LogFile 0)) (left (LogFile 0))) in
@@ -83,14 +84,14 @@ no_other_kept old now may may' keeps none files left found is = none_left may no
 
 -- where a log was to be made
 pub no_other_made : (old now : Files) (may may' may'' : Outcomes) → Keeps old now may may'
-    → (LeavesAtMost 17 (may' (LogFile 0)) → (files : Files) → MayLeave may'' files → (read : Read) → log_of 0 files ≡ Ok read → read ≡ nothing) → LeavesNoLog may → LeavesNoOther may''
+    → (CrashLeavesAtMost 17 (may' (LogFile 0)) → (files : Files) → MayLeave may'' files → (read : Read) → log_of 0 files ≡ Ok read → read ≡ nothing) → LeavesNoLog may → LeavesNoOther may''
 no_other_made old now may may' may'' keeps short none files left found is =
     let read = read_is files found is in
-    let few : LeavesAtMost 17 (may' (LogFile 0)) = λ c at. subst (λ (o : Option (List ℕ)). size_of o ≤ 17) (sym (none c (keeps.crash (LogFile 0) c at))) (omega arith) in
+    let few : CrashLeavesAtMost 17 (may' (LogFile 0)) = λ c at. subst (λ (o : Option (List ℕ)). size_of o ≤ 17) (sym (none c (keeps.crash (LogFile 0) c at))) (omega arith) in
     let made = short few files left read.read read.is in
     let entries : found.entries ≡ [] = sym read.entries ∙ ap (λ (r : Read). newest_first r.entries) made in
     let end : found.end ≡ position 0 0 = sym read.end ∙ ap (λ (r : Read). r.end) made in
-    found_is files found is ∙ ap (λ (es : Trail). found_by es found.end) entries ∙ ap (λ (p : Position). found_by [] p) end
+    found_is files found is ∙ ap (λ (es : Trail). opened_from es found.end) entries ∙ ap (λ (p : Position). opened_from [] p) end
 
 -- ---- how a run may end
 
@@ -104,61 +105,61 @@ out_before ScriptTooLong unplaced before = absurd before
 out_before (VolumeFault stop) unplaced before = absurd before
 out_before _ unplaced before = tt
 
-opened_end : (settings : Settings) (found : Found) (status : Status) (script sink logs : Type 0) → IsSome (mark_place settings found) → IsRunEnd status script sink logs → IsOpened settings (Ok found) status
-opened_end settings found Done script sink logs place ends = place
-opened_end settings found ScriptFault script sink logs place ends = place
-opened_end settings found SinkFault script sink logs place ends = place
-opened_end settings found ScriptTooLong script sink logs place ends = place
-opened_end settings found (VolumeFault Logs) script sink logs place ends = tt
-opened_end settings found _ script sink logs place ends = absurd ends
+opened_end : (settings : Settings) (found : Opened) (status : Status) → IsSome (mark_place settings found) → IsRunEnd status → IsOpened settings (Ok found) status
+opened_end settings found Done place ends = place
+opened_end settings found ScriptFault place ends = place
+opened_end settings found SinkFault place ends = place
+opened_end settings found ScriptTooLong place ends = place
+opened_end settings found (VolumeFault Logs) place ends = tt
+opened_end settings found _ place ends = absurd ends
 
 -- a run whose lines have begun
-pub opened_lines : (settings : Settings) (files : Files) (found : Found) (status : Status) (script sink logs : Type 0) → opening files ≡ Ok found → IsSome (mark_place settings found) → IsRunEnd status script sink logs
+pub opened_lines : (settings : Settings) (files : Files) (found : Opened) (status : Status) → opening files ≡ Ok found → IsSome (mark_place settings found) → IsRunEnd status
     → IsOpened settings (database files) status
-opened_lines settings files found status script sink logs is place ends =
-    subst (λ (r : Result Found OpenRefusal). IsOpened settings r status) (sym (database_found files found is)) (opened_end settings found status script sink logs place ends)
+opened_lines settings files found status is place ends =
+    subst (λ (r : Result Opened OpenRefusal). IsOpened settings r status) (sym (database_found files found is)) (opened_end settings found status place ends)
 
-pub opened_refused : (settings : Settings) (r : Result Found OpenRefusal) (refusal : OpenRefusal) (status : Status) → r ≡ Err refusal → IsOpened settings (Err refusal) status → IsOpened settings r status
-opened_refused settings r refusal status is so = subst (λ (r : Result Found OpenRefusal). IsOpened settings r status) (sym is) so
+pub opened_refused : (settings : Settings) (r : Result Opened OpenRefusal) (refusal : OpenRefusal) (status : Status) → r ≡ Err refusal → IsOpened settings (Err refusal) status → IsOpened settings r status
+opened_refused settings r refusal status is so = subst (λ (r : Result Opened OpenRefusal). IsOpened settings r status) (sym is) so
 
-pub opened_out : (settings : Settings) (files : Files) (found : Found) → opening files ≡ Ok found → mark_place settings found ≡ None → IsOpened settings (database files) LogOut
-opened_out settings files found is none = subst (λ (r : Result Found OpenRefusal). IsOpened settings r LogOut) (sym (database_found files found is)) none
+pub opened_out : (settings : Settings) (files : Files) (found : Opened) → opening files ≡ Ok found → mark_place settings found ≡ None → IsOpened settings (database files) LogOut
+opened_out settings files found is none = subst (λ (r : Result Opened OpenRefusal). IsOpened settings r LogOut) (sym (database_found files found is)) none
 
-pub failed_volume : (settings : Settings) (r : Result Found OpenRefusal) → IsOpened settings r (VolumeFault Logs)
+pub failed_volume : (settings : Settings) (r : Result Opened OpenRefusal) → IsOpened settings r (VolumeFault Logs)
 failed_volume settings (Ok found) = tt
 failed_volume settings (Err refusal) = inr tt
 
-pub wanted_memory : (settings : Settings) (r : Result Found OpenRefusal) → IsOpened settings r NoMemory
+pub wanted_memory : (settings : Settings) (r : Result Opened OpenRefusal) → IsOpened settings r NoMemory
 wanted_memory settings (Ok found) = tt
 wanted_memory settings (Err refusal) = inr tt
 
-same_ok : (r : Result Found LogRefusal) (a b : Found) → r ≡ Ok a → r ≡ Ok b → a ≡ b
+same_ok : (r : Result Opened LogRefusal) (a b : Opened) → r ≡ Ok a → r ≡ Ok b → a ≡ b
 same_ok (Ok x) a b one two = cc
 same_ok (Err e) a b one two = cc
 
-pub same_found : (files : Files) (a b : Found) → opening files ≡ Ok a → database files ≡ Ok b → a ≡ b
+pub same_found : (files : Files) (a b : Opened) → opening files ≡ Ok a → database files ≡ Ok b → a ≡ b
 same_found files a b opens is = same_ok (opening files) a b opens (database_opens files b is)
 
-pub found_not_refused : (files : Files) (found : Found) (refusal : OpenRefusal) → opening files ≡ Ok found → database files ≡ Err refusal → ⊥
+pub found_not_refused : (files : Files) (found : Opened) (refusal : OpenRefusal) → opening files ≡ Ok found → database files ≡ Err refusal → ⊥
 found_not_refused files found refusal opens is = let found_so : database files ≡ Ok found = database_found files found opens in let no : ⊥ = cc in no
 
 -- what was found is what the run begins over
-pub begun_found : (settings : Settings) (files : Files) (found : Found) → (begun_over settings files found).found ≡ found
+pub begun_found : (settings : Settings) (files : Files) (found : Opened) → (begun_over settings files found).found ≡ found
 unfolding begun with_entry
 begun_found settings files found = refl
 
 -- a run, as it is seen from before the database was opened
-pub run_over : {V : Type 0} (now : V → Files) (may : V → Outcomes) (P Q : Type 0) (script left : Option (List ℕ)) (start : State) (before after : Option (List ℕ)) (status : Status) (old opened new : V) → IsSinceOpening start → (Q → P)
-    → (IsStill start → Keeps (now old) (now opened) (may old) (may opened)) → ChangesFrom start.found.end.file (now old) (now opened) (may old) (may opened)
-    → IsRunFrom now may P script left (record { state = start; logs = opened }) before after status new → IsRun now may Q script left start before after status old new
-run_over now may P Q script left start before after status old opened new since settled still opening ran =
-    let under : IsRunFrom now may Q script left (record { state = start; logs = opened }) before after status new = run_under now may P Q script left (record { state = start; logs = opened }) before after status new settled ran in
+pub run_over : {V : Type 0} (g : Ghosts V) (P Q : Type 0) (script left : Option (List ℕ)) (start : State) (before after : Option (List ℕ)) (status : Status) (old opened new : V) → IsSinceOpening start → (Q → P)
+    → (IsStill start → Keeps (g.now old) (g.now opened) (g.may old) (g.may opened)) → ChangesFrom start.found.end.file (g.now old) (g.now opened) (g.may old) (g.may opened)
+    → IsRunFrom g P (streams script left before after) (record { state = start; logs = opened }) status new → IsRun g Q (streams script left before after) start status old new
+run_over g P Q script left start before after status old opened new since settled still opening ran =
+    let under : IsRunFrom g Q (streams script left before after) (record { state = start; logs = opened }) status new = run_under g P Q script left (record { state = start; logs = opened }) before after status new settled ran in
     record {
       opened = opened;
       unchanged = still;
       lines = under;
-      still = run_still now may Q script left start before after status old opened new since still under;
-      others = run_changes now may Q script left start before after status old opened new since opening under;
+      still = run_still g Q script left start before after status old opened new since still under;
+      others = run_changes g Q script left start before after status old opened new since opening under;
     }
 
 none_there : (o : Option Position) → o ≡ None → IsSome o → ⊥
@@ -166,36 +167,28 @@ none_there None none some = let bad : ⊥ = cc in bad
 none_there (Some at) none some = let bad : ⊥ = cc in bad
 
 -- a run ends well where nothing failed
-pub completes : {V : Type 0} (now : V → Files) (may : V → Outcomes) (told : Option (List ℕ)) (bytes : List ℕ) (left : Option (List ℕ)) (settings : Settings) (found : Found) (start : State) (before after : Option (List ℕ)) (status : Status) (settled untouched : Type 0) (old new : V)
-    (script attributes sink logs images backups : Type 0) → told ≡ Some bytes → EndedEarly status settings found untouched settled (now old) (may new) ⊎ IsRun now may settled told left start before after status old new → IsOpened settings (Ok found) status
-    → IsFaultOf status script attributes sink logs images backups → IsSome (mark_place settings found) → length bytes ≤ 2 ^ 30 → ¬ script → ¬ attributes → ¬ sink → ¬ logs → (status ≡ Done) ⊎ (status ≡ NoMemory)
-completes now may told bytes left settings found start before after status settled untouched old new script attributes sink logs images backups is ran opens fault place short no_script no_attributes no_sink no_logs = by status ran opens fault
+pub completes : {V : Type 0} (g : Ghosts V) (told : Option (List ℕ)) (bytes : List ℕ) (left : Option (List ℕ)) (settings : Settings) (found : Opened) (start : State) (before after : Option (List ℕ)) (status : Status) (settled untouched : Type 0) (old new : V)
+    (script sink logs : Type 0) → told ≡ Some bytes → EndedEarly status settings found untouched settled (g.now old) (g.may new) ⊎ IsRun g settled (streams told left before after) start status old new → IsOpened settings (Ok found) status
+    → IsScriptRunEnd status → (status ≡ ScriptFault → script) → (status ≡ SinkFault → sink) → (status ≡ VolumeFault Logs → logs) → IsSome (mark_place settings found) → length bytes ≤ 2 ^ 30 → ¬ script → ¬ sink → ¬ logs → (status ≡ Done) ⊎ (status ≡ NoMemory)
+completes g told bytes left settings found start before after status settled untouched old new script sink logs is ran opens ends at_script at_sink at_logs place short no_script no_sink no_logs = by status ran opens ends at_script at_sink at_logs
   where
-    by : (status : Status) → EndedEarly status settings found untouched settled (now old) (may new) ⊎ IsRun now may settled told left start before after status old new → IsOpened settings (Ok found) status → IsFaultOf status script attributes sink logs images backups → (status ≡ Done) ⊎ (status ≡ NoMemory)
-    by Done ran opens fault = inl refl
-    by NoMemory ran opens fault = inr refl
-    by ScriptFault ran opens fault = absurd (no_script fault)
-    by AttributesFault ran opens fault = absurd (no_attributes fault)
-    by SinkFault ran opens fault = absurd (no_sink fault)
-    by (VolumeFault Logs) ran opens fault = absurd (no_logs fault)
-    by LogOut (inl none) opens fault = absurd (none_there (mark_place settings found) none place)
-    by LogOut (inr run) opens fault = absurd run.lines.run.ends.0
-    by ScriptTooLong (inl early) opens fault = absurd early
-    by ScriptTooLong (inr run) opens fault = let long : (script_most < length bytes) × (ended_lines (take script_most bytes) ≡ run.lines.run.lines) = subst (λ (o : Option (List ℕ)). IfSome o (λ b. (script_most < length b) × (ended_lines (take script_most b) ≡ run.lines.run.lines))) is run.lines.run.ends.0 in absurd (let over = long.0 in omega (arith, over, short))
-    by _ ran opens fault = absurd opens
-
-pub script_run_cause : (status : Status) (script sink logs : Type 0) → IsScriptRunEnd status script sink logs → IsFaultOf status script ⊥ sink logs ⊥ ⊥
-script_run_cause Usage script sink logs ends = absurd ends
-script_run_cause Exists script sink logs ends = absurd ends
-script_run_cause AttributesFault script sink logs ends = absurd ends
-script_run_cause (BadAttribute name) script sink logs ends = absurd ends
-script_run_cause _ script sink logs ends = ends
+    by : (status : Status) → EndedEarly status settings found untouched settled (g.now old) (g.may new) ⊎ IsRun g settled (streams told left before after) start status old new → IsOpened settings (Ok found) status → IsScriptRunEnd status → (status ≡ ScriptFault → script) → (status ≡ SinkFault → sink) → (status ≡ VolumeFault Logs → logs) → (status ≡ Done) ⊎ (status ≡ NoMemory)
+    by Done ran opens ends at_script at_sink at_logs = inl refl
+    by NoMemory ran opens ends at_script at_sink at_logs = inr refl
+    by ScriptFault ran opens ends at_script at_sink at_logs = absurd (no_script (at_script refl))
+    by SinkFault ran opens ends at_script at_sink at_logs = absurd (no_sink (at_sink refl))
+    by (VolumeFault Logs) ran opens ends at_script at_sink at_logs = absurd (no_logs (at_logs refl))
+    by LogOut (inl none) opens ends at_script at_sink at_logs = absurd (none_there (mark_place settings found) none place)
+    by LogOut (inr run) opens ends at_script at_sink at_logs = absurd run.lines.run.ends.0
+    by ScriptTooLong (inl early) opens ends at_script at_sink at_logs = absurd early
+    by ScriptTooLong (inr run) opens ends at_script at_sink at_logs = let long : (script_most < length bytes) × (ended_lines (take script_most bytes) ≡ run.lines.run.lines) = subst (λ (o : Option (List ℕ)). IfSome o (λ b. (script_most < length b) × (ended_lines (take script_most b) ≡ run.lines.run.lines))) is run.lines.run.ends.0 in absurd (let over = long.0 in omega (arith, over, short))
+    by _ ran opens ends at_script at_sink at_logs = absurd opens
 
 -- a run whose lines were begun didn't end before them
-pub not_before_lines : (status : Status) (unplaced script sink logs : Type 0) → IsRunEnd status script sink logs → IsBeforeLines status unplaced → ⊥
-not_before_lines Done unplaced script sink logs ends before = before
-not_before_lines ScriptTooLong unplaced script sink logs ends before = before
-not_before_lines ScriptFault unplaced script sink logs ends before = before
-not_before_lines SinkFault unplaced script sink logs ends before = before
-not_before_lines (VolumeFault stop) unplaced script sink logs ends before = before
-not_before_lines _ unplaced script sink logs ends before = ends
+pub not_before_lines : (status : Status) (unplaced : Type 0) → IsRunEnd status → IsBeforeLines status unplaced → ⊥
+not_before_lines Done unplaced ends before = before
+not_before_lines ScriptTooLong unplaced ends before = before
+not_before_lines ScriptFault unplaced ends before = before
+not_before_lines SinkFault unplaced ends before = before
+not_before_lines (VolumeFault stop) unplaced ends before = before
+not_before_lines _ unplaced ends before = ends

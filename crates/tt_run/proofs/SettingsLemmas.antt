@@ -1,5 +1,5 @@
 -- What was read of the attributes is enough to judge them.
-use Rattle.std.proofs.Common.{◌≡◌, ◌≤◌, ◌<◌, ◌+◌, ◌-◌, ◌⊎◌, inl, inr, ◌∙◌, ◌++◌, ℕ, [], List, length, take, Option, Some, None, Result, Ok, Err, refl, sym, ap, subst, arith, append_assoc}
+use Rattle.std.proofs.Common.{◌≡◌, ◌≤◌, ◌<◌, ◌+◌, ◌-◌, ◌⊎◌, inl, inr, ◌∙◌, ◌++◌, ℕ, [], List, length, take, Option, Some, None, Result, Ok, Err, refl, sym, ap, subst, arith, append_assoc, append-nil}
 use Rattle.std.specs.Prelude.{IfOk}
 use Rattle.std.specs.Io.{ReadsAtMost}
 use Rattle.std.specs.Io.KnownBytes.{ReadConsumes}
@@ -8,13 +8,12 @@ use Rattle.tt_disk.specs.declared.volume.Failed.{Failed}
 use Rattle.tt_flow.proofs.Kept.{kept_put}
 use Rattle.std.proofs.lemmas.List.{length-take, length-take-le, take_all}
 use Rattle.std.proofs.Math.Seq.{take-append_seam}
-use Rattle.std.proofs.Common.{append-nil}
-use Rattle.tt_set.specs.Attributes.{AreInRange, Reads, Says}
+use Rattle.tt_set.specs.Settings.{AreInRange, Reads, Says}
 use Rattle.tt_set.specs.declared.settings.Settings.{Settings}
 use Rattle.tt_run.specs.declared.status.Status.{Status}
 use Rattle.tt_run.specs.declared.status.Status.TheVariants.{Done, ScriptFault, AttributesFault, SinkFault, VolumeFault, NoMemory, Usage, Damaged, Exists, NoDatabase, BadAttribute, LogOut, ScriptTooLong}
-use Rattle.tt_run.specs.Openings.{IsCreateText, IsFaultOf}
-use Rattle.tt_run.specs.Settings.{AreSettings, EndedInAttributes, IsFrom, IsReadEnd, IsRefusedFor, IsSaid, IsUnread}
+use Rattle.tt_run.specs.Openings.{IsCreateText}
+use Rattle.tt_run.specs.Attributes.{AreSettings, EndedInAttributes, IsFrom, IsReadEnd, IsRefusedFor, IsSaid, IsUnread}
 
 -- of a text that is too long, one byte too many is enough
 cut_reads : (text : List ℕ) → length (take 65537 text) ≤ 65536 → take 65537 text ≡ text
@@ -78,30 +77,30 @@ says_read text bytes said is says = subst (λ (t : List ℕ). Says t said) (sym 
 -- ---- a run that ended with its attributes
 
 -- they couldn't be read, memory was wanting, or they aren't right
-pub data EndedSo (status : Status) (fault : Type 0) : Type 0 where
-  unread : status ≡ AttributesFault → fault → EndedSo status fault
-  unremembered : status ≡ NoMemory → EndedSo status fault
-  wrong : (name : List ℕ) → status ≡ BadAttribute name → EndedSo status fault
+pub data EndedSo (status : Status) : Type 0 where
+  unread : status ≡ AttributesFault → EndedSo status
+  unremembered : status ≡ NoMemory → EndedSo status
+  wrong : (name : List ℕ) → status ≡ BadAttribute name → EndedSo status
 
-pub ended_so : (status : Status) (fault : Type 0) → IsReadEnd (Err status) fault → EndedSo status fault
-ended_so AttributesFault fault ends = unread refl ends
-ended_so NoMemory fault ends = unremembered refl
-ended_so (BadAttribute name) fault ends = wrong name refl
-ended_so Done fault ends = absurd ends
-ended_so ScriptFault fault ends = absurd ends
-ended_so SinkFault fault ends = absurd ends
-ended_so (VolumeFault stop) fault ends = absurd ends
-ended_so Usage fault ends = absurd ends
-ended_so (Damaged damage) fault ends = absurd ends
-ended_so Exists fault ends = absurd ends
-ended_so NoDatabase fault ends = absurd ends
-ended_so LogOut fault ends = absurd ends
-ended_so ScriptTooLong fault ends = absurd ends
+pub ended_so : (status : Status) → IsReadEnd status → EndedSo status
+ended_so AttributesFault ends = unread refl
+ended_so NoMemory ends = unremembered refl
+ended_so (BadAttribute name) ends = wrong name refl
+ended_so Done ends = absurd ends
+ended_so ScriptFault ends = absurd ends
+ended_so SinkFault ends = absurd ends
+ended_so (VolumeFault stop) ends = absurd ends
+ended_so Usage ends = absurd ends
+ended_so (Damaged damage) ends = absurd ends
+ended_so Exists ends = absurd ends
+ended_so NoDatabase ends = absurd ends
+ended_so LogOut ends = absurd ends
+ended_so ScriptTooLong ends = absurd ends
 
-pub ended_not_usage : (status : Status) (fault : Type 0) → EndedSo status fault → status ≡ Usage → ⊥
-ended_not_usage status fault (unread is f) usage = let other : AttributesFault ≡ Usage = sym is ∙ usage in let bad : ⊥ = cc in bad
-ended_not_usage status fault (unremembered is) usage = let other : NoMemory ≡ Usage = sym is ∙ usage in let bad : ⊥ = cc in bad
-ended_not_usage status fault (wrong name is) usage = let other : BadAttribute name ≡ Usage = sym is ∙ usage in let bad : ⊥ = cc in bad
+pub ended_not_usage : (status : Status) → EndedSo status → status ≡ Usage → ⊥
+ended_not_usage status (unread is) usage = let other : AttributesFault ≡ Usage = sym is ∙ usage in let bad : ⊥ = cc in bad
+ended_not_usage status (unremembered is) usage = let other : NoMemory ≡ Usage = sym is ∙ usage in let bad : ⊥ = cc in bad
+ended_not_usage status (wrong name is) usage = let other : BadAttribute name ≡ Usage = sym is ∙ usage in let bad : ⊥ = cc in bad
 
 abbrev no_settings : List ℕ → Result Settings (List ℕ)
 no_settings name = Err name
@@ -116,10 +115,10 @@ same_Err a b is = cc
 ok_not_wrong : (settings : Settings) (status : Status) (name : List ℕ) → status ≡ BadAttribute name → IsSaid (Ok settings) (Err status) → ⊥
 ok_not_wrong settings status name is said = let bad : some_settings settings ≡ no_settings name = subst (λ (x : Status). IsSaid (Ok settings) (Err x)) is said in let no_value : ⊥ = cc in no_value
 
-pub ended_bad : (status : Status) (fault : Type 0) (name : List ℕ) → EndedSo status fault → IsSaid (Err name) (Err status) → IsRefusedFor name status
-ended_bad status fault name (unread is f) said = inr (inl is)
-ended_bad status fault name (unremembered is) said = inr (inr is)
-ended_bad status fault name (wrong other is) said =
+pub ended_bad : (status : Status) (name : List ℕ) → EndedSo status → IsSaid (Err name) (Err status) → IsRefusedFor name status
+ended_bad status name (unread is) said = inr (inl is)
+ended_bad status name (unremembered is) said = inr (inr is)
+ended_bad status name (wrong other is) said =
     let same : no_settings name ≡ no_settings other = subst (λ (x : Status). IsSaid (Err name) (Err x)) is said in
     inl (is ∙ ap (λ (n : List ℕ). BadAttribute n) (sym (same_Err name other same)))
 
@@ -127,10 +126,10 @@ bad_in : (attributes : Option (List ℕ)) (name : List ℕ) → ((text : List �
 bad_in None name says = tt
 bad_in (Some text) name says = says text refl
 
-pub ended_in_attributes : (attributes : Option (List ℕ)) (status : Status) (fault : Type 0) → ((text : List ℕ) → attributes ≡ Some text → IsFrom text (Err status)) → EndedSo status fault → EndedInAttributes attributes status
-ended_in_attributes attributes status fault says (unread is f) = subst (λ (x : Status). EndedInAttributes attributes x) (sym is) tt
-ended_in_attributes attributes status fault says (unremembered is) = subst (λ (x : Status). EndedInAttributes attributes x) (sym is) tt
-ended_in_attributes attributes status fault says (wrong name is) =
+pub ended_in_attributes : (attributes : Option (List ℕ)) (status : Status) → ((text : List ℕ) → attributes ≡ Some text → IsFrom text (Err status)) → EndedSo status → EndedInAttributes attributes status
+ended_in_attributes attributes status says (unread is) = subst (λ (x : Status). EndedInAttributes attributes x) (sym is) tt
+ended_in_attributes attributes status says (unremembered is) = subst (λ (x : Status). EndedInAttributes attributes x) (sym is) tt
+ended_in_attributes attributes status says (wrong name is) =
     subst (λ (x : Status). EndedInAttributes attributes x) (sym is) (bad_in attributes name (λ text told. subst (λ (x : Status). IsFrom text (Err x)) is (says text told)))
 
 -- the settings that were read are those of the attributes
@@ -138,20 +137,15 @@ pub are_settings : (attributes : Option (List ℕ)) (settings : Settings) → Ar
 are_settings None settings range says = range
 are_settings (Some text) settings range says = says text refl
 
-pub ended_text : (status : Status) (fault untouched : Type 0) (given : Option (List ℕ)) → EndedSo status fault → untouched → IsCreateText given given status untouched
-ended_text status fault untouched given (unread is f) same = subst (λ (x : Status). IsCreateText given given x untouched) (sym is) same
-ended_text status fault untouched given (unremembered is) same = subst (λ (x : Status). IsCreateText given given x untouched) (sym is) same
-ended_text status fault untouched given (wrong name is) same = subst (λ (x : Status). IsCreateText given given x untouched) (sym is) same
+pub ended_text : (status : Status) (untouched : Type 0) (given : Option (List ℕ)) → EndedSo status → untouched → IsCreateText given given status untouched
+ended_text status untouched given (unread is) same = subst (λ (x : Status). IsCreateText given given x untouched) (sym is) same
+ended_text status untouched given (unremembered is) same = subst (λ (x : Status). IsCreateText given given x untouched) (sym is) same
+ended_text status untouched given (wrong name is) same = subst (λ (x : Status). IsCreateText given given x untouched) (sym is) same
 
-pub ended_complete : (status : Status) (fault : Type 0) (settings : Settings) → EndedSo status fault → IsSaid (Ok settings) (Err status) → ¬ fault → (status ≡ Done) ⊎ (status ≡ NoMemory)
-ended_complete status fault settings (unread is f) said no_fault = absurd (no_fault f)
-ended_complete status fault settings (unremembered is) said no_fault = inr is
-ended_complete status fault settings (wrong name is) said no_fault = absurd (ok_not_wrong settings status name is said)
-
-pub ended_cause : (status : Status) (fault script sink logs images backups : Type 0) → EndedSo status fault → IsFaultOf status script fault sink logs images backups
-ended_cause status fault script sink logs images backups (unread is f) = subst (λ (x : Status). IsFaultOf x script fault sink logs images backups) (sym is) f
-ended_cause status fault script sink logs images backups (unremembered is) = subst (λ (x : Status). IsFaultOf x script fault sink logs images backups) (sym is) tt
-ended_cause status fault script sink logs images backups (wrong name is) = subst (λ (x : Status). IsFaultOf x script fault sink logs images backups) (sym is) tt
+pub ended_complete : (status : Status) (fault : Type 0) (settings : Settings) → EndedSo status → IsSaid (Ok settings) (Err status) → (status ≡ AttributesFault → fault) → ¬ fault → (status ≡ Done) ⊎ (status ≡ NoMemory)
+ended_complete status fault settings (unread is) said failed no_fault = absurd (no_fault (failed is))
+ended_complete status fault settings (unremembered is) said failed no_fault = inr is
+ended_complete status fault settings (wrong name is) said failed no_fault = absurd (ok_not_wrong settings status name is said)
 
 -- one text has one say
 pub same_settings : (a b : Settings) → IsSaid (Ok a) (Ok b) → a ≡ b
@@ -161,17 +155,17 @@ pub said_not_bad : (name : List ℕ) (settings : Settings) → IsSaid (Err name)
 said_not_bad name settings said = let bad : ⊥ = cc in bad
 
 -- a status that comes before the settings are read
-pub unread_so : (status : Status) (fault : Type 0) (text : List ℕ) (said : Result Settings (List ℕ)) → IsUnread status fault → IsFrom text (Err status) × IsSaid said (Err status) × IsReadEnd (Err status) fault
-unread_so AttributesFault fault text said so = (tt, tt, so)
-unread_so NoMemory fault text said so = (tt, tt, tt)
-unread_so (BadAttribute name) fault text said so = absurd so
-unread_so Done fault text said so = absurd so
-unread_so ScriptFault fault text said so = absurd so
-unread_so SinkFault fault text said so = absurd so
-unread_so (VolumeFault stop) fault text said so = absurd so
-unread_so Usage fault text said so = absurd so
-unread_so (Damaged damage) fault text said so = absurd so
-unread_so Exists fault text said so = absurd so
-unread_so NoDatabase fault text said so = absurd so
-unread_so LogOut fault text said so = absurd so
-unread_so ScriptTooLong fault text said so = absurd so
+pub unread_so : (status : Status) (text : List ℕ) (said : Result Settings (List ℕ)) → IsUnread status → IsFrom text (Err status) × IsSaid said (Err status) × IsReadEnd status
+unread_so AttributesFault text said so = (tt, tt, tt)
+unread_so NoMemory text said so = (tt, tt, tt)
+unread_so (BadAttribute name) text said so = absurd so
+unread_so Done text said so = absurd so
+unread_so ScriptFault text said so = absurd so
+unread_so SinkFault text said so = absurd so
+unread_so (VolumeFault stop) text said so = absurd so
+unread_so Usage text said so = absurd so
+unread_so (Damaged damage) text said so = absurd so
+unread_so Exists text said so = absurd so
+unread_so NoDatabase text said so = absurd so
+unread_so LogOut text said so = absurd so
+unread_so ScriptTooLong text said so = absurd so

@@ -3,24 +3,25 @@ use Rattle.std.proofs.Common.{◌≡◌, ◌⊎◌, inl, inr, ℕ, List, Option,
 use Rattle.tt_disk.specs.Volume.{IsSettled, Keeps}
 use Rattle.tt_disk.specs.declared.volume.Name.{Name}
 use Rattle.tt_log.specs.Walk.{Files}
-use Rattle.tt_log.specs.Logs.{MayLeave}
-use Rattle.tt_model.specs.Found.{Found}
+use Rattle.tt_log.specs.Log.{MayLeave}
+use Rattle.tt_model.specs.Opened.{Opened}
 use Rattle.tt_model.specs.Prefix.{StandsForPrefix}
 use Rattle.tt_model.specs.State.{State}
 use Rattle.tt_engine.specs.Prefixes.{LeavesOpening, LogsAreSettled, opens, or_none}
 use Rattle.tt_engine.specs.Starts.{begun_over, database}
 use Rattle.tt_run.specs.declared.status.Status.TheVariants.{Done}
 use Rattle.tt_run.specs.Openings.{EndedEarly, IsCreated, new_database}
-use Rattle.tt_run.specs.Settings.{ForSettings}
-use Rattle.tt_run.specs.Runs.{IsRun}
+use Rattle.tt_run.specs.Attributes.{ForSettings}
+use Rattle.tt_run.specs.Run.{IsRun, streams}
 use Rattle.tt_engine.specs.OpeningLaws.{database_found}
+use Rattle.tt_disk.specs.declared.volume.Volume.{Ghosts}
 
 abbrev Outcomes : Type 1
 Outcomes = Name → Option (List ℕ) → Type 0
 
 -- What a run asks of the files that it is begun over: that they open, and that a crash leaves them as they read.
 pub record MayRun (now : Files) (may : Outcomes) : Type 0 where
-  pub found : Found
+  pub found : Opened
   pub is : database now ≡ Ok found
   pub settled : LogsAreSettled now may
 
@@ -29,24 +30,24 @@ pub after_create : (log : Option (List ℕ)) (now : Files) (may : Outcomes) → 
 after_create None now may made = record { found = new_database; is = made.0; settled = made.2 }
 after_create (Some f) now may made = absurd made
 
-done_run : {V : Type 0} (now : V → Files) (may : V → Outcomes) (script left before after : Option (List ℕ)) (start : State) (old new : V) → (settled : LogsAreSettled (now old) (may old))
-    → (r : IsRun now may (LogsAreSettled (now old) (may old)) script left start before after Done old new) → MayRun (now new) (may new)
-done_run now may script left before after start old new settled r =
+done_run : {V : Type 0} (g : Ghosts V) (script left before after : Option (List ℕ)) (start : State) (old new : V) → (settled : LogsAreSettled (g.now old) (g.may old))
+    → (r : IsRun g (LogsAreSettled (g.now old) (g.may old)) (streams script left before after) start Done old new) → MayRun (g.now new) (g.may new)
+done_run g script left before after start old new settled r =
     let holds = r.lines.logs.holds in
     record {
       found = holds.opens.found;
-      is = database_found (now new) holds.opens.found holds.opens.is;
+      is = database_found (g.now new) holds.opens.found holds.opens.is;
       settled = holds.settled_again settled;
     }
 
 -- So may one behind a run that was done to its end.
-pub after_done : {V : Type 0} (now : V → Files) (may : V → Outcomes) (attributes script left before after : Option (List ℕ)) (found : Found) (untouched : Type 0) (old new : V) → LogsAreSettled (now old) (may old)
-    → ForSettings attributes Done (λ settings. EndedEarly Done settings found untouched (LogsAreSettled (now old) (may old)) (now old) (may new) ⊎ IsRun now may (LogsAreSettled (now old) (may old)) script left (begun_over settings (now old) found) before after Done old new)
-    → MayRun (now new) (may new)
-after_done now may attributes script left before after found untouched old new settled (inl ended) = absurd ended
-after_done now may attributes script left before after found untouched old new settled (inr (settings, gives, inl early)) = absurd early
-after_done now may attributes script left before after found untouched old new settled (inr (settings, gives, inr r)) =
-    done_run now may script left before after (begun_over settings (now old) found) old new settled r
+pub after_done : {V : Type 0} (g : Ghosts V) (attributes script left before after : Option (List ℕ)) (found : Opened) (untouched : Type 0) (old new : V) → LogsAreSettled (g.now old) (g.may old)
+    → ForSettings attributes Done (λ settings. EndedEarly Done settings found untouched (LogsAreSettled (g.now old) (g.may old)) (g.now old) (g.may new) ⊎ IsRun g (LogsAreSettled (g.now old) (g.may old)) (streams script left before after) (begun_over settings (g.now old) found) Done old new)
+    → MayRun (g.now new) (g.may new)
+after_done g attributes script left before after found untouched old new settled (inl ended) = absurd ended
+after_done g attributes script left before after found untouched old new settled (inr (settings, gives, inl early)) = absurd early
+after_done g attributes script left before after found untouched old new settled (inr (settings, gives, inr r)) =
+    done_run g script left before after (begun_over settings (g.now old) found) old new settled r
 
 -- files that read alike at each name
 alike : (a b : Files) → ((n : Name) → a n ≡ b n) → a ≡ b

@@ -1,9 +1,10 @@
+pub mod Attributes
 pub mod ChainLaws
 pub mod Loops
 pub mod Openings
-pub mod Replies
-pub mod Requests
-pub mod Runs
-pub mod Settings
-pub mod Statuses
+pub mod Reply
+pub mod Request
+pub mod Run
+pub mod Status
+pub mod TopCall
 pub mod Words

@@ -6,18 +6,18 @@ use Rattle.tt_disk.specs.declared.volume.Name.TheVariants.{Log as LogFile}
 use Rattle.tt_value.specs.declared.position.Position.{Position}
 use Rattle.tt_value.specs.declared.reply.Stop.TheVariants.{Logs, Images, Backups}
 use Rattle.tt_record.specs.declared.entry.Entry.TheVariants.{Mark}
-use Rattle.tt_record.specs.Entries.{length_of}
-use Rattle.tt_record.specs.Places.{place_of, position}
+use Rattle.tt_record.specs.Entry.{length_of}
+use Rattle.tt_record.specs.Place.{position_of, position}
 use Rattle.tt_set.specs.declared.settings.Settings.{Settings}
 use Rattle.tt_log.specs.Walk.{Files}
-use Rattle.tt_log.specs.Logs.{MayLeave}
-use Rattle.tt_model.specs.Found.{Found}
-use Rattle.tt_recover.specs.Opening.{found_by, opening}
+use Rattle.tt_log.specs.Log.{MayLeave}
+use Rattle.tt_model.specs.Opened.{Opened}
+use Rattle.tt_recover.specs.Opening.{opened_from, opening}
 use Rattle.tt_engine.specs.Prefixes.{LeavesOpening, LogsAreSettled}
 use Rattle.tt_engine.specs.Starts.{begun_over, database}
 use Rattle.tt_engine.specs.declared.refusal.OpenRefusal.{OpenRefusal}
 use Rattle.tt_engine.specs.declared.refusal.OpenRefusal.TheVariants as refusal
-use Rattle.tt_run.specs.Settings.{AreSettings}
+use Rattle.tt_run.specs.Attributes.{AreSettings}
 use Rattle.tt_run.specs.declared.status.Status.{Status}
 use Rattle.tt_run.specs.declared.status.Status.TheVariants.{Done, ScriptFault, AttributesFault, SinkFault, VolumeFault, NoMemory, Usage, Damaged, Exists, NoDatabase, BadAttribute, LogOut, ScriptTooLong}
 
@@ -35,44 +35,29 @@ IsBeforeLines (BadAttribute name) unplaced = Unit {0}
 IsBeforeLines LogOut unplaced = unplaced
 IsBeforeLines _ unplaced = ⊥
 
--- where a device failed, this is so of its count
-abbrev pub IsFaultOf : Status → Type 0 → Type 0 → Type 0 → Type 0 → Type 0 → Type 0 → Type 0
-IsFaultOf ScriptFault script attributes sink logs images backups = script
-IsFaultOf AttributesFault script attributes sink logs images backups = attributes
-IsFaultOf SinkFault script attributes sink logs images backups = sink
-IsFaultOf (VolumeFault Logs) script attributes sink logs images backups = logs
-IsFaultOf (VolumeFault Images) script attributes sink logs images backups = images
-IsFaultOf (VolumeFault Backups) script attributes sink logs images backups = backups
-IsFaultOf _ script attributes sink logs images backups = Unit {0}
-
--- this is so of each count of faults, unless the status names its device
-pub record OthersStay (status : Status) (script attributes sink logs : Type 0) : Type 0 where
-  pub script_stays : (status ≡ ScriptFault) ⊎ script
-  pub attributes_stay : (status ≡ AttributesFault) ⊎ attributes
-  pub sink_stays : (status ≡ SinkFault) ⊎ sink
-  pub logs_stay : (status ≡ VolumeFault Logs) ⊎ logs
-
 -- memory was wanting, or the log files failed, before the database was open
 abbrev pub FailedEarly : Status → Type 0
 FailedEarly NoMemory = Unit {0}
 FailedEarly (VolumeFault Logs) = Unit {0}
 FailedEarly _ = ⊥
 
--- how a run of a script may end; where a device failed, its count is this
-abbrev pub IsScriptRunEnd : Status → Type 0 → Type 0 → Type 0 → Type 0
-IsScriptRunEnd Usage script sink logs = ⊥
-IsScriptRunEnd Exists script sink logs = ⊥
-IsScriptRunEnd AttributesFault script sink logs = ⊥
-IsScriptRunEnd (BadAttribute name) script sink logs = ⊥
-IsScriptRunEnd status script sink logs = IsFaultOf status script ⊥ sink logs ⊥ ⊥
+-- how a run of a script may end
+abbrev pub IsScriptRunEnd : Status → Type 0
+IsScriptRunEnd Usage = ⊥
+IsScriptRunEnd Exists = ⊥
+IsScriptRunEnd AttributesFault = ⊥
+IsScriptRunEnd (BadAttribute name) = ⊥
+IsScriptRunEnd (VolumeFault Images) = ⊥
+IsScriptRunEnd (VolumeFault Backups) = ⊥
+IsScriptRunEnd _ = Unit {0}
 
 -- how the making of a database may end
-abbrev pub IsCreateEnd : Status → Type 0 → Type 0 → Type 0
-IsCreateEnd Done sink logs = Unit {0}
-IsCreateEnd SinkFault sink logs = sink
-IsCreateEnd (VolumeFault Logs) sink logs = logs
-IsCreateEnd Exists sink logs = Unit {0}
-IsCreateEnd _ sink logs = ⊥
+abbrev pub IsCreateEnd : Status → Type 0
+IsCreateEnd Done = Unit {0}
+IsCreateEnd SinkFault = Unit {0}
+IsCreateEnd (VolumeFault Logs) = Unit {0}
+IsCreateEnd Exists = Unit {0}
+IsCreateEnd _ = ⊥
 
 -- the status of a database that can't be opened
 abbrev pub status_of : OpenRefusal → Status
@@ -85,12 +70,12 @@ status_of refusal.NoMemory = NoMemory
 -- ---- `run DIR`
 
 -- where the Mark would stand with which a run over this begins
-abbrev pub mark_place : Settings → Found → Option Position
-mark_place settings found = place_of found.end (length_of Mark) settings.log_file_size
+abbrev pub mark_place : Settings → Opened → Option Position
+mark_place settings found = position_of found.end (length_of Mark) settings.log_file_size
 
 -- How a run may end where the database was opened as this: what can't be opened is refused so, and where there is no place for a
 -- Mark, no line is done. Memory may have been wanting before, or the log files failed.
-abbrev pub IsOpened : Settings → Result Found OpenRefusal → Status → Type 0
+abbrev pub IsOpened : Settings → Result Opened OpenRefusal → Status → Type 0
 IsOpened settings (Err refusal) status = (status ≡ status_of refusal) ⊎ FailedEarly status
 IsOpened settings (Ok found) Done = IsSome (mark_place settings found)
 IsOpened settings (Ok found) ScriptFault = IsSome (mark_place settings found)
@@ -104,14 +89,14 @@ IsOpened settings (Ok found) _ = ⊥
 -- The attributes are right and the database opens, but the Mark has no place.
 pub record HasNoPlace (attributes : Option (List ℕ)) (files : Files) : Type 0 where
   pub settings : Settings
-  pub found : Found
+  pub found : Opened
   pub gives : AreSettings attributes settings
   pub opens : database files ≡ Ok found
   pub none : mark_place settings found ≡ None
 
 -- A run over what was found ended before its first line: for want of memory, since the Mark has no place, or in the log files. In
 -- the last case this is untouched, and a crash leaves what was found, and perhaps the Mark.
-abbrev pub EndedEarly : Status → Settings → Found → Type 0 → Type 0 → Files → (Name → Option (List ℕ) → Type 0) → Type 0
+abbrev pub EndedEarly : Status → Settings → Opened → Type 0 → Type 0 → Files → (Name → Option (List ℕ) → Type 0) → Type 0
 EndedEarly NoMemory settings found untouched settled now may = Unit {0}
 EndedEarly LogOut settings found untouched settled now may = mark_place settings found ≡ None
 EndedEarly (VolumeFault Logs) settings found untouched settled now may = untouched × (settled → LeavesOpening (length found.entries) (begun_over settings now found) may)
@@ -120,8 +105,8 @@ EndedEarly _ settings found untouched settled now may = ⊥
 -- ---- `create DIR`
 
 -- a new database: no entries, and so no rows
-abbrev pub new_database : Found
-new_database = found_by [] (position 0 0)
+abbrev pub new_database : Opened
+new_database = opened_from [] (position 0 0)
 
 -- it stands in these files, without another log file, and opening finds the same in each map of files that a crash may leave
 abbrev pub HasNewDatabase : Files → (Name → Option (List ℕ) → Type 0) → Type 0
@@ -142,7 +127,7 @@ LeavesNoLog may = (c : Option (List ℕ)) → may (LogFile 0) c → c ≡ None
 
 -- a crash leaves no log that opens as another than a new database
 abbrev pub LeavesNoOther : (Name → Option (List ℕ) → Type 0) → Type 0
-LeavesNoOther may = (files : Files) → MayLeave may files → (found : Found) → opening files ≡ Ok found → found ≡ new_database
+LeavesNoOther may = (files : Files) → MayLeave may files → (found : Opened) → opening files ≡ Ok found → found ≡ new_database
 
 -- what `create` wrote
 abbrev pub IsCreateText : Option (List ℕ) → Option (List ℕ) → Status → Type 0 → Type 0

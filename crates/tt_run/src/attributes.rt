@@ -1,9 +1,10 @@
-// The settings that a source of attributes gives.
+//! The settings that a source of attributes gives: its text is read to its end, or to the byte that is too many.
 ghost use Rattle.std.specs.Prelude.{◌≡◌, ◌⊎◌, ◌≤◌, ◌+◌, ◌++◌, ◌<◌, [], length, take, List, ℕ, Result, Some, IfOk, IfErr, IsErrOf};
-ghost use Rattle.tt_disk.specs.Causes.{HasCause, RoseWhere, Rose, Stays};
-ghost use Rattle.tt_set.specs.Attributes.{AreInRange, Says};
+ghost use Rattle.tt_disk.specs.Faults.{HasCause, RoseWhere};
+ghost use Rattle.tt_set.specs.Settings.{AreInRange, Says};
 ghost use Rattle.tt_set.specs.declared.settings.Settings.{Settings};
-ghost use Rattle.tt_run.specs.Settings.{IsFrom, IsSaid, IsReadEnd, IsUnread};
+ghost use Rattle.tt_run.specs.TopCall.{SaysOnly, SourceRose};
+ghost use Rattle.tt_run.specs.Attributes.{IsFrom, IsSaid, IsReadEnd, IsUnread};
 
 use crate::status::Status;
 use std::alloc::Global;
@@ -18,10 +19,9 @@ const READ_MAX: usize = 65_537;
 pub(crate) fn settings_of<A: Source>(alloc: Global, attributes: &mut A) -> Result<Settings, Status>
     ensures range { IfOk result AreInRange }
     ensures says { (text : List ℕ) → A.left attributes.old ≡ Some text → IsFrom text result }
-    ensures only { (text : List ℕ) (said : Result Settings (List ℕ)) → A.left attributes.old ≡ Some text → Says text said
-        → IsSaid said result }
-    ensures cause { IsReadEnd result (Rose (A.faults attributes.old) (A.faults attributes.new)) }
-    ensures stays { IsErrOf result Status.AttributesFault ⊎ Stays A.exact (A.faults attributes.old) (A.faults attributes.new) }
+    ensures only { SaysOnly (A.left attributes.old) result }
+    ensures statuses { IfErr result IsReadEnd }
+    ensures fault { SourceRose A.Source (IsErrOf result Status.AttributesFault) attributes.old attributes.new }
 {
     let text = match read_text(alloc, attributes, READ_MAX) {
         Ok(text) => text,
@@ -37,8 +37,8 @@ pub(crate) fn settings_of<A: Source>(alloc: Global, attributes: &mut A) -> Resul
 // The attributes to their end, or so many bytes of them.
 fn read_text<A: Source>(alloc: Global, attributes: &mut A, most: usize) -> Result<Vec<u8>, Status>
     ensures bytes { (text : List ℕ) → A.left attributes.old ≡ Some text → IfOk result (λ read. read.items ≡ take most text) }
-    ensures refused { IfErr result (λ status. IsUnread status (Rose (A.faults attributes.old) (A.faults attributes.new))) }
-    ensures stays { IsErrOf result Status.AttributesFault ⊎ Stays A.exact (A.faults attributes.old) (A.faults attributes.new) }
+    ensures statuses { IfErr result IsUnread }
+    ensures fault { SourceRose A.Source (IsErrOf result Status.AttributesFault) attributes.old attributes.new }
 {
     let mut text = match vec![in alloc; 0; most] {
         Ok(text) => text,

@@ -1,8 +1,8 @@
-// The text of a reply.
+//! The text of a reply, in a buffer of fixed size: it takes no memory, and is put by one call.
 ghost use Rattle.std.specs.Prelude.{◌≡◌, ◌+◌, ◌≤◌, ◌++◌, ◌∷◌, [], length, codes, decimal};
-ghost use Rattle.tt_engine.specs.Requests.{IsGiven};
-ghost use Rattle.tt_run.specs.Replies.{text_of, field_words, place_words};
-ghost use Rattle.tt_value.specs.Refusals.{number_of, name_of, field_of};
+ghost use Rattle.tt_engine.specs.Request.{IsReplyInUse};
+ghost use Rattle.tt_run.specs.Reply.{text_of, field_words, place_words};
+ghost use Rattle.tt_value.specs.Refusal.{number_of, name_of, field_of};
 
 use itoa::Buffer;
 use std::marker::Model;
@@ -56,7 +56,7 @@ impl ReplyText {
 
 // The text of a reply that some line gives.
 pub(crate) fn reply_text(reply: &Reply) -> ReplyText
-    requires { IsGiven reply.now }
+    requires { IsReplyInUse reply.now }
     ensures { result ≡ text_of reply.now }
 {
     let mut text = ReplyText::new();

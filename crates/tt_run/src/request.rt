@@ -1,18 +1,17 @@
-// What a line asks for.
+//! What a line asks for.
 ghost use Rattle.std.specs.Prelude.{◌≡◌, ◌↔◌, ◌≤◌, length, true, Some, None, IfSome};
 ghost use Rattle.std.specs.Str.{bytes_eq};
 ghost use Rattle.std.specs.Prelude.{codes};
-ghost use Rattle.tt_parse.specs.Parsing.{is_skipped};
-ghost use Rattle.tt_run.specs.Requests.{IsRequest, row_request, command_request, request_of};
+ghost use Rattle.tt_parse.specs.Parse.{is_skipped};
+ghost use Rattle.tt_run.specs.Request.{IsRequest, row_request, command_request, request_of};
 
 use std::alloc::Global;
 use tt_engine::Request;
 use tt_parse::{Command, LineKind, parse_line};
 use tt_value::{Refusal, Value};
 
-// What a line of at most 4,096 bytes asks for; `None` where it is skipped.
+// What a line asks for; `None` where it is skipped.
 pub(crate) fn read_request(alloc: Global, line: &[u8]) -> Option<Request>
-    requires { length line.now ≤ 4096 }
     ensures skipped { (result ≡ None) ↔ (is_skipped line.now ≡ true) }
     ensures request { IfSome result (λ request. IsRequest (Some line.now) request) }
 {

@@ -1,6 +1,6 @@
-// How a run ended.
+//! How a run ended: the number with which the program exits, and the words for it.
 ghost use Rattle.std.specs.Prelude.{◌≡◌};
-ghost use Rattle.tt_run.specs.Statuses.{exit_of};
+ghost use Rattle.tt_run.specs.Status.{exit_of};
 
 use std::fmt;
 use tt_engine::Damage;
@@ -61,7 +61,7 @@ impl Status {
 /// The name of the status, and behind it the volume, the damage or the attribute: `Damaged BadBatch 0 53`.
 impl fmt::Display for Status {
     ghost use Rattle.std.specs.Prelude.{Some};
-    ghost use Rattle.tt_run.specs.Statuses.{status_words};
+    ghost use Rattle.tt_run.specs.Status.{status_words};
 
     ghost output = { λ status. Some (status_words status) };
 

@@ -1,3 +1,4 @@
+//! A run over a real folder.
 use super::{Status, run};
 use std::alloc::{AllocError, Global};
 use std::fs;

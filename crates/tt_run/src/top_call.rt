@@ -1,24 +1,26 @@
-// The top call.
+//! The top call: what the words of the command line ask for is done, and the status tells how it ended.
 ghost use Rattle.std.specs.Prelude.{◌^◌, length, ◌≡◌, ◌≢◌, ◌<◌, ◌≤◌, ◌⊎◌, ◌↔◌, ℕ, List, Option, Some, None, Result, Ok, Err, IsSome, OnOk, OnErr, take, IfOk, IfSome, IfNone, map, string_bytes};
 ghost use Rattle.std.specs.Io.KnownBytes.{Appends};
-ghost use Rattle.tt_disk.specs.Causes.{HasCause, Rose, Stays};
+ghost use Rattle.tt_log.specs.Calls.{IsOpenOn};
+ghost use Rattle.tt_disk.specs.Faults.{HasCause, Rose, RoseWhere};
 ghost use Rattle.tt_disk.specs.Volume.{Keeps};
-ghost use Rattle.tt_flow.specs.Reading.{bytes_to_come};
-ghost use Rattle.tt_set.specs.Attributes.{AreInRange, Says};
+ghost use Rattle.tt_flow.specs.Lines.{bytes_to_come};
+ghost use Rattle.tt_set.specs.Settings.{AreInRange, Says};
 ghost use Rattle.tt_set.specs.declared.settings.Settings.{Settings};
-ghost use Rattle.tt_log.specs.Logs.{IsOpen, LeavesForced};
-ghost use Rattle.tt_model.specs.Found.{Found};
+ghost use Rattle.tt_log.specs.Log.{IsOpen, CrashLeavesForced};
+ghost use Rattle.tt_model.specs.Opened.{Opened};
 ghost use Rattle.tt_model.specs.State.{State, write_position};
-ghost use Rattle.tt_engine.specs.Engines.{Stands};
+ghost use Rattle.tt_engine.specs.Engine.{Represents};
 ghost use Rattle.tt_journal.specs.LogTrail.{ChangesFrom};
 ghost use Rattle.tt_engine.specs.Prefixes.{LogsAreSettled};
-ghost use Rattle.tt_engine.specs.Requests.{IsGiven};
+ghost use Rattle.tt_engine.specs.Request.{IsReplyInUse};
 ghost use Rattle.tt_engine.specs.Starts.{begun_over, database};
-ghost use Rattle.tt_run.specs.Loops.{HasEnded, IsEnd, IsGivenOf, IsLine, IsNext, IsRunEnd, IsRunning, IsStep};
-ghost use Rattle.tt_run.specs.Openings.{EndedEarly, HasNoPlace, IsBeforeLines, IsCreateEnd, IsCreateText, IsCreated, IsFaultOf, IsOpened, IsScriptRunEnd, LeavesNoOther, LeavesNoLog, OthersStay, mark_place};
-ghost use Rattle.tt_run.specs.Replies.{text_of};
-ghost use Rattle.tt_run.specs.Runs.{IsRun, Moment, IsRunFrom};
-ghost use Rattle.tt_run.specs.Settings.{EndedInAttributes, ForSettings, IsBadSo, IsRefusedFor};
+ghost use Rattle.tt_run.specs.TopCall.{Asks, SinkRose, SourceRose, VolumeRose, ChangesFromEnd, CrashLeavesNoOtherOn, CreatedOn, CreatesOn, DoesNothing, EndsScriptOn, HaveForm, KeepsDatabase, KeepsRefused, OpensFor, ReadsNext, RefusesWrong, WritesCreated, WritesNothing};
+ghost use Rattle.tt_run.specs.Loops.{HasEnded, IsEnd, IsGivenOf, IsLine, IsNext, IsRunEnd, IsRunning, IsStep, reader_at};
+ghost use Rattle.tt_run.specs.Openings.{EndedEarly, HasNoPlace, IsBeforeLines, IsCreateEnd, IsCreateText, IsCreated, IsOpened, IsScriptRunEnd, LeavesNoOther, LeavesNoLog, mark_place};
+ghost use Rattle.tt_run.specs.Reply.{text_of};
+ghost use Rattle.tt_run.specs.Run.{IsRun, Moment, IsRunFrom, streams};
+ghost use Rattle.tt_run.specs.Attributes.{EndedInAttributes, ForSettings, IsBadSo, IsRefusedFor};
 ghost use Rattle.tt_run.specs.Words.{form_of};
 
 use crate::attributes::settings_of;
@@ -71,56 +73,47 @@ pub fn run<
 
     // The attributes aren't right exactly where the status says so, and it has the first such name, unless they couldn't be read.
     ensures attributes { (text : List ℕ) → A.left attributes.old ≡ Some text → IsBadSo text result }
-    ensures bad_attribute { (text name : List ℕ) → form_of (map string_bytes words.now) ≢ None → A.left attributes.old ≡ Some text
-        → Says text (Err name) → IsRefusedFor name result }
+    ensures bad_attribute { HaveForm words.now → RefusesWrong (A.left attributes.old) result }
 
     // Nothing was read of the script, written or changed where a status comes before the lines.
     ensures unbegun { IsBeforeLines result (HasNoPlace (A.left attributes.old) (L.now logs.old))
-        → (script.new ≡ script.old) × (sink.new ≡ sink.old)
-        × (L.told → Keeps (L.now logs.old) (L.now logs.new) (L.may logs.old) (L.may logs.new)) }
+        → DoesNothing L.Volume script.old script.new sink.old sink.new logs.old logs.new }
 
     // The words come first, and `create DIR` reads no script.
     ensures words_first { result ≡ Status.Usage → attributes.new ≡ attributes.old }
-    ensures create_script { form_of (map string_bytes words.now) ≡ Some Action.Create → script.new ≡ script.old }
+    ensures create_script { Asks words.now Action.Create → script.new ≡ script.old }
 
     // `create DIR`, over a volume that tells its files.
-    ensures created { L.told → form_of (map string_bytes words.now) ≡ Some Action.Create
-        → EndedInAttributes (A.left attributes.old) result
-        ⊎ IsCreated (L.now logs.old (Name.Log 0)) result (L.now logs.new) (L.may logs.new) }
+    ensures created { Asks words.now Action.Create
+        → CreatesOn L.Volume (A.left attributes.old) logs.old logs.new result }
 
     // A database that is there stays as it is, whatever failed.
-    ensures there { (file : List ℕ) → L.told → form_of (map string_bytes words.now) ≡ Some Action.Create
-        → L.now logs.old (Name.Log 0) ≡ Some file → Keeps (L.now logs.old) (L.now logs.new) (L.may logs.old) (L.may logs.new) }
+    ensures there { Asks words.now Action.Create → KeepsDatabase L.Volume logs.old logs.new }
 
     // However it ends, a log that a crash leaves opens as a new database, or not at all, if none could be left before.
-    ensures no_other { L.told → form_of (map string_bytes words.now) ≡ Some Action.Create → LeavesNoLog (L.may logs.old)
-        → LeavesNoOther (L.may logs.new) }
-    ensures create_text { form_of (map string_bytes words.now) ≡ Some Action.Create
-        → IsCreateText (K.given sink.old) (K.given sink.new) result (sink.new ≡ sink.old) }
+    ensures no_other { Asks words.now Action.Create → CrashLeavesNoOtherOn L.Volume logs.old logs.new }
+    ensures create_text { Asks words.now Action.Create → WritesCreated K.Sink sink.old sink.new result }
 
     // `run DIR`, over a volume that tells its files: how the database was opened.
-    ensures opened { L.told → form_of (map string_bytes words.now) ≡ Some Action.Run
-        → ForSettings (A.left attributes.old) result (λ settings. IsOpened settings (database (L.now logs.old)) result) }
+    ensures opened { Asks words.now Action.Run → OpensFor L.Volume (A.left attributes.old) logs.old result }
 
     // A database that can't be opened stays as it is, whatever failed.
-    ensures refused { (refusal : OpenRefusal) → L.told → form_of (map string_bytes words.now) ≡ Some Action.Run
-        → database (L.now logs.old) ≡ Err refusal → (script.new ≡ script.old) × (sink.new ≡ sink.old)
-        × Keeps (L.now logs.old) (L.now logs.new) (L.may logs.old) (L.may logs.new) }
+    ensures refused { Asks words.now Action.Run
+        → KeepsRefused L.Volume script.old script.new sink.old sink.new logs.old logs.new }
 
     // The lines that were answered, what was written, what the log files have between two lines and at the end, and what a crash
     // leaves, all of one run of the model from the state that opening found; unless it ended before the lines.
-    ensures ran { (found : Found) → L.told → form_of (map string_bytes words.now) ≡ Some Action.Run
+    ensures ran { (found : Opened) → L.told → form_of (map string_bytes words.now) ≡ Some Action.Run
         → database (L.now logs.old) ≡ Ok found
         → ForSettings (A.left attributes.old) result (λ settings.
         EndedEarly result settings found ((script.new ≡ script.old) × (sink.new ≡ sink.old)
         × ChangesFrom found.end.file (L.now logs.old) (L.now logs.new) (L.may logs.old) (L.may logs.new))
         (LogsAreSettled (L.now logs.old) (L.may logs.old)) (L.now logs.old) (L.may logs.new)
-        ⊎ IsRun L.now L.may (LogsAreSettled (L.now logs.old) (L.may logs.old)) (S.left script.old) (S.left script.new)
-        (begun_over settings (L.now logs.old) found) (K.given sink.old) (K.given sink.new) result logs.old logs.new) }
+        ⊎ IsRun L.Volume (LogsAreSettled (L.now logs.old) (L.may logs.old)) (streams (S.left script.old) (S.left script.new) (K.given sink.old) (K.given sink.new)) (begun_over settings (L.now logs.old) found) result logs.old logs.new) }
 
     // Where no count rose, a script of at most 2^30 bytes is done to its end, and a database is made where there is none. Want of
     // memory alone may keep both from beginning.
-    ensures complete_run { (bytes text : List ℕ) (settings : Settings) (found : Found) → L.told
+    ensures complete_run { (bytes text : List ℕ) (settings : Settings) (found : Opened) → L.told
         → form_of (map string_bytes words.now) ≡ Some Action.Run → S.left script.old ≡ Some bytes
         → A.left attributes.old ≡ Some text → Says text (Ok settings) → database (L.now logs.old) ≡ Ok found
         → IsSome (mark_place settings found) → length bytes ≤ 2 ^ 30
@@ -136,16 +129,13 @@ pub fn run<
     // What isn't used yet had no call.
     ensures unused { (images.new ≡ images.old) × (backups.new ≡ backups.old) }
 
-    // A fault status comes only where the count of that device rose.
-    ensures cause { IsFaultOf result (Rose (S.faults script.old) (S.faults script.new))
-        (Rose (A.faults attributes.old) (A.faults attributes.new)) (Rose (K.faults sink.old) (K.faults sink.new))
-        (Rose (L.faults logs.old) (L.faults logs.new)) (Rose (C.faults images.old) (C.faults images.new))
-        (Rose (B.faults backups.old) (B.faults backups.new)) }
-
-    // No other count rises, if it is exact: where a call failed, the status names its device.
-    ensures others { OthersStay result (Stays S.exact (S.faults script.old) (S.faults script.new))
-        (Stays A.exact (A.faults attributes.old) (A.faults attributes.new))
-        (Stays K.exact (K.faults sink.old) (K.faults sink.new)) (Stays L.exact (L.faults logs.old) (L.faults logs.new)) }
+    // A count of faults rose exactly where the status names its device, if it is exact; it never falls.
+    ensures script_fault { SourceRose S.Source (result ≡ Status.ScriptFault) script.old script.new }
+    ensures attributes_fault { SourceRose A.Source (result ≡ Status.AttributesFault) attributes.old attributes.new }
+    ensures sink_fault { SinkRose K.Sink (result ≡ Status.SinkFault) sink.old sink.new }
+    ensures logs_fault { VolumeRose L.Volume (result ≡ Status.VolumeFault Stop.Logs) logs.old logs.new }
+    ensures images_fault { VolumeRose C.Volume (result ≡ Status.VolumeFault Stop.Images) images.old images.new }
+    ensures backups_fault { VolumeRose B.Volume (result ≡ Status.VolumeFault Stop.Backups) backups.old backups.new }
 {
     let _ = rt;
     let _ = images;
@@ -165,16 +155,14 @@ pub fn run<
 }
 
 fn create<K: Sink, L: Volume>(sink: &mut K, logs: &mut L) -> Status
-    ensures created { L.told → IsCreated (L.now logs.old (Name.Log 0)) result (L.now logs.new) (L.may logs.new) }
-    ensures there { (file : List ℕ) → L.told → L.now logs.old (Name.Log 0) ≡ Some file
-        → Keeps (L.now logs.old) (L.now logs.new) (L.may logs.old) (L.may logs.new) }
-    ensures no_other { L.told → LeavesNoLog (L.may logs.old) → LeavesNoOther (L.may logs.new) }
-    ensures text { IsCreateText (K.given sink.old) (K.given sink.new) result (sink.new ≡ sink.old) }
-    ensures unbegun { IsBeforeLines result (result ≡ Status.LogOut) → (sink.new ≡ sink.old)
-        × (L.told → Keeps (L.now logs.old) (L.now logs.new) (L.may logs.old) (L.may logs.new)) }
-    ensures statuses { IsCreateEnd result (Rose (K.faults sink.old) (K.faults sink.new)) (Rose (L.faults logs.old) (L.faults logs.new)) }
-    ensures sink_stays { (result ≡ Status.SinkFault) ⊎ Stays K.exact (K.faults sink.old) (K.faults sink.new) }
-    ensures logs_stay { (result ≡ Status.VolumeFault Stop.Logs) ⊎ Stays L.exact (L.faults logs.old) (L.faults logs.new) }
+    ensures created { CreatedOn L.Volume logs.old logs.new result }
+    ensures there { KeepsDatabase L.Volume logs.old logs.new }
+    ensures no_other { CrashLeavesNoOtherOn L.Volume logs.old logs.new }
+    ensures text { WritesCreated K.Sink sink.old sink.new result }
+    ensures unbegun { IsBeforeLines result (result ≡ Status.LogOut) → WritesNothing L.Volume sink.old sink.new logs.old logs.new }
+    ensures statuses { IsCreateEnd result }
+    ensures sink_fault { SinkRose K.Sink (result ≡ Status.SinkFault) sink.old sink.new }
+    ensures logs_fault { VolumeRose L.Volume (result ≡ Status.VolumeFault Stop.Logs) logs.old logs.new }
 {
     match logs.size(Name::Log(0)) {
         Ok(None) => {}
@@ -199,22 +187,19 @@ fn run_script<S: Source, K: Sink, L: Volume>(
     logs: &mut L,
 ) -> Status
     requires settings { AreInRange settings.now }
-    ensures ran { (found : Found) → L.told → database (L.now logs.old) ≡ Ok found
+    ensures ran { (found : Opened) → L.told → database (L.now logs.old) ≡ Ok found
         → EndedEarly result settings.now found ((script.new ≡ script.old) × (sink.new ≡ sink.old)
         × ChangesFrom found.end.file (L.now logs.old) (L.now logs.new) (L.may logs.old) (L.may logs.new))
         (LogsAreSettled (L.now logs.old) (L.may logs.old)) (L.now logs.old) (L.may logs.new)
-        ⊎ IsRun L.now L.may (LogsAreSettled (L.now logs.old) (L.may logs.old)) (S.left script.old) (S.left script.new)
-        (begun_over settings.now (L.now logs.old) found) (K.given sink.old) (K.given sink.new) result logs.old logs.new }
+        ⊎ IsRun L.Volume (LogsAreSettled (L.now logs.old) (L.may logs.old)) (streams (S.left script.old) (S.left script.new) (K.given sink.old) (K.given sink.new)) (begun_over settings.now (L.now logs.old) found) result logs.old logs.new }
     ensures opened { L.told → IsOpened settings.now (database (L.now logs.old)) result }
-    ensures refused { (refusal : OpenRefusal) → L.told → database (L.now logs.old) ≡ Err refusal → (script.new ≡ script.old)
-        × (sink.new ≡ sink.old) × Keeps (L.now logs.old) (L.now logs.new) (L.may logs.old) (L.may logs.new) }
-    ensures unbegun { IsBeforeLines result (result ≡ Status.LogOut) → (script.new ≡ script.old) × (sink.new ≡ sink.old)
-        × (L.told → Keeps (L.now logs.old) (L.now logs.new) (L.may logs.old) (L.may logs.new)) }
-    ensures statuses { IsScriptRunEnd result (Rose (S.faults script.old) (S.faults script.new))
-        (Rose (K.faults sink.old) (K.faults sink.new)) (Rose (L.faults logs.old) (L.faults logs.new)) }
-    ensures script_stays { (result ≡ Status.ScriptFault) ⊎ Stays S.exact (S.faults script.old) (S.faults script.new) }
-    ensures sink_stays { (result ≡ Status.SinkFault) ⊎ Stays K.exact (K.faults sink.old) (K.faults sink.new) }
-    ensures logs_stay { (result ≡ Status.VolumeFault Stop.Logs) ⊎ Stays L.exact (L.faults logs.old) (L.faults logs.new) }
+    ensures refused { KeepsRefused L.Volume script.old script.new sink.old sink.new logs.old logs.new }
+    ensures unbegun { IsBeforeLines result (result ≡ Status.LogOut)
+        → DoesNothing L.Volume script.old script.new sink.old sink.new logs.old logs.new }
+    ensures statuses { IsScriptRunEnd result }
+    ensures script_fault { SourceRose S.Source (result ≡ Status.ScriptFault) script.old script.new }
+    ensures sink_fault { SinkRose K.Sink (result ≡ Status.SinkFault) sink.old sink.new }
+    ensures logs_fault { VolumeRose L.Volume (result ≡ Status.VolumeFault Stop.Logs) logs.old logs.new }
 {
     match Engine::start(alloc, settings, logs) {
         Ok(engine) => do_lines(alloc, engine, script, sink, logs),
@@ -234,18 +219,15 @@ fn do_lines<S: Source, K: Sink, L: Volume>(
     sink: &mut K,
     logs: &mut L,
 ) -> Status
-    requires open { L.told → IsOpen engine.log (L.now logs.old) (L.may logs.old) }
-    ensures ran { L.told → (start : State) → Stands engine (L.now logs.old) start
-        → IsRunFrom L.now L.may (LeavesForced engine.log (L.now logs.old) (L.may logs.old)) (S.left script.old) (S.left script.new)
-        (record { state = start; logs = logs.old }) (K.given sink.old) (K.given sink.new) result logs.new }
-    ensures cause { IsRunEnd result (Rose (S.faults script.old) (S.faults script.new)) (Rose (K.faults sink.old) (K.faults sink.new))
-        (Rose (L.faults logs.old) (L.faults logs.new)) }
-    ensures script_stays { (result ≡ Status.ScriptFault) ⊎ Stays S.exact (S.faults script.old) (S.faults script.new) }
-    ensures sink_stays { (result ≡ Status.SinkFault) ⊎ Stays K.exact (K.faults sink.old) (K.faults sink.new) }
-    ensures logs_stay { (result ≡ Status.VolumeFault Stop.Logs) ⊎ Stays L.exact (L.faults logs.old) (L.faults logs.new) }
+    requires open { IsOpenOn L.Volume engine.log logs.old }
+    ensures ran { L.told → (start : State) → Represents engine (L.now logs.old) start
+        → IsRunFrom L.Volume (CrashLeavesForced engine.log (L.now logs.old) (L.may logs.old)) (streams (S.left script.old) (S.left script.new) (K.given sink.old) (K.given sink.new)) (record { state = start; logs = logs.old }) result logs.new }
+    ensures statuses { IsRunEnd result }
+    ensures script_fault { SourceRose S.Source (result ≡ Status.ScriptFault) script.old script.new }
+    ensures sink_fault { SinkRose K.Sink (result ≡ Status.SinkFault) sink.old sink.new }
+    ensures logs_fault { VolumeRose L.Volume (result ≡ Status.VolumeFault Stop.Logs) logs.old logs.new }
 {
     let mut engine = engine;
-    engine.opens_after_crash(logs);
     let mut reader = LineReader::new();
     let mut line = LineBuf::new();
     'lines: loop {
@@ -274,20 +256,16 @@ fn do_line<S: Source, K: Sink, L: Volume>(
     sink: &mut K,
     logs: &mut L,
 ) -> Option<Status>
-    requires open { L.told → IsOpen engine.old.log (L.now logs.old) (L.may logs.old) }
+    requires open { IsOpenOn L.Volume engine.old.log logs.old }
     ensures open { L.told → IfNone result (IsOpen engine.new.log (L.now logs.new) (L.may logs.new)) }
     ensures step { L.told → (first : Engine) (start : Moment L) (bytes before : Option (List ℕ)) (s : State)
-        → IsRunning L.now L.may first start bytes (S.left script.old) before (K.given sink.old) reader.old engine.old
-        (record { state = s; logs = logs.old })
-        → IsStep L.now L.may first start bytes (S.left script.new) before (K.given sink.new) reader.new engine.new logs.new result }
+        → IsRunning L.Volume first start (streams bytes (S.left script.old) before (K.given sink.old)) reader.old engine.old (record { state = s; logs = logs.old })
+        → IsStep L.Volume first start (streams bytes (S.left script.new) before (K.given sink.new)) (reader_at reader.new engine.new logs.new) result }
     ensures fewer { IfNone result (bytes_to_come reader.new < bytes_to_come reader.old) }
-    ensures cause { IfSome result (λ status. IsRunEnd status (Rose (S.faults script.old) (S.faults script.new))
-        (Rose (K.faults sink.old) (K.faults sink.new)) (Rose (L.faults logs.old) (L.faults logs.new))) }
-    ensures later { (S.faults script.old ≤ S.faults script.new) × (K.faults sink.old ≤ K.faults sink.new)
-        × (L.faults logs.old ≤ L.faults logs.new) }
-    ensures script_stays { (result ≡ Some Status.ScriptFault) ⊎ Stays S.exact (S.faults script.old) (S.faults script.new) }
-    ensures sink_stays { (result ≡ Some Status.SinkFault) ⊎ Stays K.exact (K.faults sink.old) (K.faults sink.new) }
-    ensures logs_stay { (result ≡ Some (Status.VolumeFault Stop.Logs)) ⊎ Stays L.exact (L.faults logs.old) (L.faults logs.new) }
+    ensures statuses { IfSome result IsRunEnd }
+    ensures script_fault { SourceRose S.Source (result ≡ Some Status.ScriptFault) script.old script.new }
+    ensures sink_fault { SinkRose K.Sink (result ≡ Some Status.SinkFault) sink.old sink.new }
+    ensures logs_fault { VolumeRose L.Volume (result ≡ Some (Status.VolumeFault Stop.Logs)) logs.old logs.new }
 {
     let request = match next_line(alloc, reader, line, script) {
         Ok(NextLine::Asks(request)) => request,
@@ -300,7 +278,6 @@ fn do_line<S: Source, K: Sink, L: Volume>(
         Ok(reply) => reply,
         Err(_) => return Some(Status::VolumeFault(Stop::Logs)),
     };
-    engine.opens_after_crash(logs);
     match put_reply(sink, reply) {
         Ok(()) => None,
         Err(_) => Some(Status::SinkFault),
@@ -309,27 +286,21 @@ fn do_line<S: Source, K: Sink, L: Volume>(
 
 // Ends a run at the end of its script: the log is forced.
 fn end_script<L: Volume>(engine: &mut Engine, logs: &mut L) -> Status
-    requires open { L.told → IsOpen engine.old.log (L.now logs.old) (L.may logs.old) }
-    ensures ends { L.told → (s : State) → Stands engine.old (L.now logs.old) s
-        → HasEnded L.now L.may engine.old (record { state = s; logs = logs.old }) logs.new result }
-    ensures others { L.told → (s : State) → Stands engine.old (L.now logs.old) s → ChangesFrom (write_position s).file (L.now logs.old)
-        (L.now logs.new) (L.may logs.old) (L.may logs.new) }
-    ensures cause { IsEnd result (Rose (L.faults logs.old) (L.faults logs.new)) }
-    ensures later { L.faults logs.old ≤ L.faults logs.new }
-    ensures logs_stay { (result ≡ Status.VolumeFault Stop.Logs) ⊎ Stays L.exact (L.faults logs.old) (L.faults logs.new) }
+    requires open { IsOpenOn L.Volume engine.old.log logs.old }
+    ensures ends { EndsScriptOn L.Volume engine.old logs.old logs.new result }
+    ensures others { ChangesFromEnd L.Volume engine.old logs.old logs.new }
+    ensures statuses { IsEnd result }
+    ensures logs_fault { VolumeRose L.Volume (result ≡ Status.VolumeFault Stop.Logs) logs.old logs.new }
 {
     match engine.end(logs) {
-        Ok(()) => {
-            engine.opens_after_crash(logs);
-            Status::Done
-        }
+        Ok(()) => Status::Done,
         Err(_) => Status::VolumeFault(Stop::Logs),
     }
 }
 
 // Writes the text of a reply.
 fn put_reply<K: Sink>(sink: &mut K, reply: Reply) -> Result<(), Failed>
-    requires { IsGiven reply }
+    requires { IsReplyInUse reply }
     ensures whole { OnOk result (Appends (K.given sink.old) (K.given sink.new) (text_of reply)) }
     ensures prefix { OnErr result ((n : ℕ) × Appends (K.given sink.old) (K.given sink.new) (take n (text_of reply))) }
     ensures cause { HasCause K.exact (K.faults sink.old) (K.faults sink.new) result }
@@ -345,8 +316,7 @@ fn next_line<S: Source>(
     line: &mut LineBuf,
     script: &mut S,
 ) -> Result<NextLine, Failed>
-    ensures read { (bytes : Option (List ℕ)) (given : List (Option (List ℕ))) → IsGivenOf bytes given reader.old (S.left script.old)
-        → IsNext bytes given result reader.new (S.left script.new) }
+    ensures read { ReadsNext S.Source reader.old script.old reader.new script.new result }
     ensures fewer { IfOk result (λ next. IsLine next → bytes_to_come reader.new < bytes_to_come reader.old) }
     ensures cause { HasCause S.exact (S.faults script.old) (S.faults script.new) result }
 {

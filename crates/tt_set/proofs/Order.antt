@@ -14,7 +14,8 @@ use Rattle.std.specs.String.{string_cmp}
 use Rattle.toml.specs.Data.{Data, Members, no_members, member, get_member}
 use Rattle.toml.specs.View.{members_view}
 use Rattle.toml.proofs.Views.{Entry}
-use Rattle.tt_set.specs.Attributes.{is_right, IsWrong, AllRight, IsFirstWrong}
+use Rattle.tt_set.specs.Attribute.{is_right}
+use Rattle.tt_set.specs.Settings.{IsWrong, AllRight, IsFirstWrong}
 
 -- the first name that isn't right
 abbrev pub first_wrong : Members → Option (List ℕ)

@@ -1,16 +1,16 @@
 -- A text says one thing.
-use Rattle.std.proofs.Common.{◌≡◌, ℕ, List, Result, Ok, Err, refl, sym, ap, ◌∙◌, subst, inl, inr}
+use Rattle.std.proofs.Common.{◌≡◌, ℕ, List, Result, Ok, Err, refl, sym, ap, ◌∙◌, subst, inl, inr, Ordering, Less, Equal, Greater, nat_cmp, ◌≢◌}
 use Rattle.std.proofs.lemmas.Cmp.{nat_list_cmp_total}
 use Rattle.std.proofs.lemmas.Map.Lookups.{exact_bytes}
 use Rattle.std.proofs.lemmas.Option.{same_Some}
-use Rattle.std.proofs.Common.{Ordering, Less, Equal, Greater, nat_cmp, ◌≢◌}
 use Rattle.std.specs.Cmp.Lexicographic.{slice_cmp}
 use Rattle.std.specs.Ordering.{ordering_reverse}
 use Rattle.toml.specs.Data.{Members}
 use Rattle.tt_set.specs.declared.settings.Settings.{Settings}
 use Rattle.tt_set.specs.declared.settings.SetRefusal.{SetRefusal}
 use Rattle.tt_set.specs.declared.settings.SetRefusal.TheVariants.{Bad, NoMemory}
-use Rattle.tt_set.specs.Attributes.{settings_in, Reads, IsFirstWrong, Says, IsNamed, Gives}
+use Rattle.tt_set.specs.Attribute.{IsNamed}
+use Rattle.tt_set.specs.Settings.{settings_in, Reads, IsFirstWrong, Says, Gives}
 
 same_members : (text : List ℕ) (ms others : Members) → Reads text ms → Reads text others → ms ≡ others
 same_members text ms others a b = same_Some ms others (sym a.document ∙ b.document)

@@ -1,7 +1,8 @@
-// The attributes by their names, and what a table of them says.
+//! The attributes by their names, with their ranges and defaults, and what a document says of each.
 ghost use Rattle.std.specs.Prelude.{◌≡◌, ◌≤◌, IfSome, MatchOption};
 ghost use Rattle.toml.specs.View.{view, table_view};
-ghost use Rattle.tt_set.specs.Attributes.{attribute_of, number_of, is_right, number_in, AllRight, IsFirstWrong};
+ghost use Rattle.tt_set.specs.Attribute.{attribute_of, number_of, is_right, number_in};
+ghost use Rattle.tt_set.specs.Settings.{AllRight, IsFirstWrong};
 
 use toml::{Table, Value};
 

@@ -1,6 +1,9 @@
+//! The settings of a database, and what a text of attributes gives. The text is read whole, as a TOML document of at most
+//! 65,536 bytes; the first name, in the order of bytes, that isn't right is told.
 ghost use Rattle.std.specs.Prelude.{◌≡◌, ◌≤◌, [], IfOk, IfErr, Ok, Err, Result, List, ℕ};
 ghost use Rattle.toml.specs.View.{table_view};
-ghost use Rattle.tt_set.specs.Attributes.{settings_in, Says, IsNamed, IsRefusedFor, Gives, AreInRange};
+ghost use Rattle.tt_set.specs.Attribute.{IsNamed};
+ghost use Rattle.tt_set.specs.Settings.{settings_in, Says, IsRefusedFor, Gives, AreInRange};
 
 use crate::attribute::{
     CKPT_PAGES, DATABASE, DURABLE_COMMITS, LOG_BUF_SIZE, LOG_FILE_SIZE, PERM_PAGES, first_wrong,

@@ -1,3 +1,4 @@
+//! Texts of attributes, with the settings or the wrong name that each gives.
 use crate::{SetRefusal, Settings, read_settings};
 use std::process::Abort;
 use std::test::Fail;

@@ -10,11 +10,13 @@ use Rattle.std.specs.Set.{remove_key}
 use Rattle.tt_txn.specs.declared.lock_name.LockName.{LockName}
 use Rattle.tt_txn.specs.declared.noted.Noted.{Noted}
 use Rattle.tt_txn.specs.declared.spots.Spot.{Spot}
-use Rattle.tt_txn.specs.Names.{same_name}
+use Rattle.tt_txn.specs.Same.{same_name}
 use Rattle.tt_txn.specs.Locks.{Holdings, names_of, is_session, Holds}
 use Rattle.tt_txn.specs.Spots.{spot, is_spot_at}
 use Rattle.tt_txn.specs.Kept.{seen, IsKept}
-use Rattle.tt_txn.specs.Txns.{LiveTransaction, Transactions, transaction, is_live, number_of, with_begun, with_changed, without, other_holder, taking, giving_back, noting, undoing, noted_by, first_before, IsFreeFor, IsSession, IsAscending, IsWhole}
+use Rattle.tt_txn.specs.Live.{LiveTransaction, taking, giving_back, noting, undoing, IsSession}
+use Rattle.tt_txn.specs.Table.{Transactions, transaction, is_live, number_of, with_begun, with_changed, without, noted_by, IsAscending}
+use Rattle.tt_txn.specs.Txns.{other_holder, first_before, IsFreeFor, IsWhole}
 use Rattle.tt_txn.proofs.Keeps.{kept_begun, kept_taking, kept_giving, kept_without, kept_noting, kept_undoing, kept_again}
 use Rattle.tt_txn.proofs.Tables.{number_begun, number_changed, number_own, number_without, put_number, seat_of, vacant_begun, vacant_held, vacant_ended}
 use Rattle.tt_txn.proofs.Views.{ascending_raw}

@@ -12,9 +12,10 @@ use Rattle.std.proofs.lemmas.Map.Entries.{lookup_from_place}
 use Rattle.std.proofs.lemmas.Option.{same_Some}
 use Rattle.tt_txn.specs.declared.held.Held.{Held}
 use Rattle.tt_txn.specs.declared.lock_name.LockName.{LockName}
-use Rattle.tt_txn.specs.Names.{same_name}
+use Rattle.tt_txn.specs.Same.{same_name}
 use Rattle.tt_txn.specs.NameLaws.{same_name-Decides, same_name-equivalence}
-use Rattle.tt_txn.specs.Locks.{names_of, held, slot_in, slots_of, slot_at, held_at, named, names_in, IsTied, IsTiedBut}
+use Rattle.tt_txn.specs.Locks.{names_of, held, held_at, named, names_in, IsTied, IsTiedBut}
+use Rattle.tt_txn.specs.Slots.{slot_in, slots_of, slot_at}
 use Rattle.tt_txn.proofs.Ties.{Entry, Slots, same_names, none_some, same_pair, within_entries}
 
 -- the names of a session, by its slots

@@ -3,7 +3,7 @@ use Rattle.std.proofs.Common.{ℕ, ap, refl}
 use Rattle.std.specs.Option.{option_map}
 use Rattle.std.proofs.lemmas.Bool.{ne_eqb}
 use Rattle.tt_txn.specs.declared.noted.Noted.{Noted}
-use Rattle.tt_txn.specs.Txns.{begun, taking, giving_back, noting, undoing}
+use Rattle.tt_txn.specs.Live.{begun, taking, giving_back, noting, undoing}
 use Rattle.tt_txn.specs.Laws.{CallsKeepWhole, FirstsStay, OwnCallsAreSeen, HoldersAreOthers}
 use Rattle.tt_txn.proofs.Wholes.{whole_begun, whole_without, whole_taking, whole_giving}
 use Rattle.tt_txn.proofs.Firsts.{whole_noting, whole_undoing, firsts_same, firsts_begun, firsts_without, elsewhere}

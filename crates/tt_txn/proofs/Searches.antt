@@ -8,7 +8,8 @@ use Rattle.std.proofs.lemmas.Bool.{cases_eq, cases_lt, lt-ltb, le-ltb, eq-eqb, n
 use Rattle.std.proofs.lemmas.Bool.Decides.{nat_tests}
 use Rattle.std.proofs.lemmas.Cmp.{ranked}
 use Rattle.std.proofs.lemmas.List.Sorted.{IsNonDecreasingBy-from_default}
-use Rattle.tt_txn.specs.Txns.{LiveTransaction, Transactions, has_number, transaction, begun, AllAbove, IsAscending}
+use Rattle.tt_txn.specs.Live.{LiveTransaction, has_number, begun}
+use Rattle.tt_txn.specs.Table.{Transactions, transaction, AllAbove, IsAscending}
 use Rattle.tt_txn.proofs.Places.{first_place, position_is}
 
 nobody : LiveTransaction

@@ -8,7 +8,9 @@ use Rattle.std.proofs.lemmas.List.{get_or-set_same, get_or-set_other}
 use Rattle.std.proofs.lemmas.Option.{same_Some}
 use Rattle.tt_txn.specs.declared.lock_name.LockName.{LockName}
 use Rattle.tt_txn.specs.Locks.{Holdings, names_of, Holds}
-use Rattle.tt_txn.specs.Txns.{LiveTransaction, Transactions, has_number, is_of, transaction, number_of, with_begun, with_changed, without, IsSession, AllOfSessions, AtMostOne}
+use Rattle.tt_txn.specs.Live.{LiveTransaction, has_number, is_of, IsSession}
+use Rattle.tt_txn.specs.Table.{Transactions, transaction, number_of, with_begun, with_changed, without, AllOfSessions}
+use Rattle.tt_txn.specs.Txns.{AtMostOne}
 
 none_some : {A : Type 0} (x : A) → None ≡ Some x → ⊥
 none_some x e = cc

@@ -8,7 +8,8 @@ use Rattle.std.proofs.lemmas.List.{get_or-set_same, get_or-set_other}
 use Rattle.std.proofs.lemmas.Option.{same_Some, slice_get-get_or}
 use Rattle.tt_txn.specs.declared.held.Held.{Held}
 use Rattle.tt_txn.specs.declared.lock_name.LockName.{LockName}
-use Rattle.tt_txn.specs.Locks.{held, slot_in, slots_of, slot_at, held_at, named, names_in, IsTied, IsTiedBut, Moves}
+use Rattle.tt_txn.specs.Locks.{held, held_at, named, names_in, IsTied, IsTiedBut, Moves}
+use Rattle.tt_txn.specs.Slots.{slot_in, slots_of, slot_at}
 
 abbrev pub Entry : Type 0
 Entry = LockName × Held

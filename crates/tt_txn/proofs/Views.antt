@@ -8,10 +8,12 @@ use Rattle.std.proofs.lemmas.Bool.{cases_eq, eq-eqb, ne_eqb, eqb-true, eqb-false
 use Rattle.std.proofs.lemmas.Option.{same_Some}
 use Rattle.tt_value.specs.declared.position.Position.{Position}
 use Rattle.tt_txn.specs.declared.lock_name.LockName.{LockName}
-use Rattle.tt_txn.specs.Names.{same_name}
+use Rattle.tt_txn.specs.Same.{same_name}
 use Rattle.tt_txn.specs.Locks.{Holdings, names_of, is_session, Holds}
 use Rattle.tt_txn.specs.Kept.{with_names, seen}
-use Rattle.tt_txn.specs.Txns.{LiveTransaction, Transactions, has_number, is_of, transaction, is_live, number_of, with_begun, with_changed, without, has_name, holder, other_holder, is_other_with, holds, is_held_by, taking, giving_back, noted_in, noted_by, has_changed, first_that_changed, firsts, AllAbove, IsAscending, AtMostOne}
+use Rattle.tt_txn.specs.Live.{LiveTransaction, has_number, is_of, has_name, is_other_with, holds, taking, giving_back, noted_in, has_changed}
+use Rattle.tt_txn.specs.Table.{Transactions, transaction, is_live, number_of, with_begun, with_changed, without, noted_by, first_that_changed, firsts, AllAbove, IsAscending}
+use Rattle.tt_txn.specs.Txns.{holder, other_holder, is_held_by, AtMostOne}
 use Rattle.tt_txn.proofs.Holdings.{none_removed}
 
 none_some : {A : Type 0} (x : A) → None ≡ Some x → ⊥

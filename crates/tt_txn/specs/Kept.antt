@@ -4,7 +4,9 @@ use Rattle.std.specs.HashMap.{HashMap}
 use Rattle.tt_txn.specs.declared.spots.Spot.{Spot}
 use Rattle.tt_txn.specs.Locks.{Holdings, names_of}
 use Rattle.tt_txn.specs.Spots.{HasSpots}
-use Rattle.tt_txn.specs.Txns.{LiveTransaction, Transactions, number_of, IsWhole}
+use Rattle.tt_txn.specs.Live.{LiveTransaction}
+use Rattle.tt_txn.specs.Table.{Transactions, number_of}
+use Rattle.tt_txn.specs.Txns.{IsWhole}
 
 -- a transaction with the names that its session holds
 abbrev pub with_names : Holdings → LiveTransaction → LiveTransaction

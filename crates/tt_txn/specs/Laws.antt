@@ -3,7 +3,9 @@ use Rattle.std.specs.Prelude.{◌≡◌, ◌≢◌, ℕ, false, [], drop, None, 
 use Rattle.tt_value.specs.declared.position.Position.{Position}
 use Rattle.tt_txn.specs.declared.lock_name.LockName.{LockName}
 use Rattle.tt_txn.specs.declared.noted.Noted.{Noted}
-use Rattle.tt_txn.specs.Txns.{Transactions, IsSession, begun, with_begun, with_changed, without, is_live, number_of, holder, other_holder, taking, giving_back, noting, undoing, noted_by, first_before, IsFreeFor, IsWhole}
+use Rattle.tt_txn.specs.Live.{IsSession, begun, taking, giving_back, noting, undoing}
+use Rattle.tt_txn.specs.Table.{Transactions, with_begun, with_changed, without, is_live, number_of, noted_by}
+use Rattle.tt_txn.specs.Txns.{holder, other_holder, first_before, IsFreeFor, IsWhole}
 
 -- Whatever is called where it may be, the live ones stay whole.
 pub record CallsKeepWhole : Type 0 where

@@ -1,9 +1,12 @@
--- The table of locks: which names each session holds, and where they stand.
-use Rattle.std.specs.Prelude.{◌≡◌, ◌≢◌, ◌<◌, ◌≤◌, ◌-◌, ℕ, Bool, false, List, [], length, get_or, slice_get, nat_eq, if◌then◌else◌, Option, Some, None}
+-- The table of locks: who holds which name.
+use Rattle.std.specs.Prelude.{◌≡◌, ◌≢◌, ◌<◌, ◌≤◌, ◌-◌, ℕ, Bool, false, List, [], ◌∷◌, ◌++◌, length, get_or, slice_get, nat_eq, if◌then◌else◌, Option, Some, None}
 use Rattle.std.specs.List.{filter_map}
 use Rattle.std.specs.Option.{option_map, option_and_then}
 use Rattle.tt_txn.specs.declared.held.Held.{Held}
 use Rattle.tt_txn.specs.declared.lock_name.LockName.{LockName}
+use Rattle.std.specs.Set.{remove_key}
+use Rattle.tt_txn.specs.Same.{same_name}
+use Rattle.tt_txn.specs.Slots.{slot_at, slots_of}
 
 -- ---- what each session holds
 
@@ -27,16 +30,6 @@ Holds session names old new = (s : ℕ) → names_of s new ≡ (if nat_eq sessio
 
 abbrev pub held : ℕ → ℕ → Held
 held session at = record { session = session; at = at }
-
--- the entry that a slot has
-abbrev pub slot_in : ℕ → List (Option ℕ) → Option ℕ
-slot_in at slots = get_or slots at None
-
-abbrev pub slots_of : ℕ → List (List (Option ℕ)) → List (Option ℕ)
-slots_of session lists = get_or lists session []
-
-abbrev pub slot_at : ℕ → ℕ → List (List (Option ℕ)) → Option ℕ
-slot_at session at lists = slot_in at (slots_of session lists)
 
 -- the name and the holder of an entry
 abbrev pub name_at : List (LockName × Held) → ℕ → Option LockName
@@ -69,3 +62,27 @@ pub record Moves (free : ℕ) (old new : List (LockName × Held)) : Type 0 where
   pub kept : (i : ℕ) → i < length old - 1 → i ≢ free → slice_get new i ≡ slice_get old i
   pub moved : free < length old - 1 → slice_get new free ≡ slice_get old (length old - 1)
   pub past : (i : ℕ) → length old - 1 ≤ i → slice_get new i ≡ None
+
+-- the names of a session, by the entries of the table and the slots of the sessions
+abbrev pub session_names : ℕ → List (LockName × Held) → List (List (Option ℕ)) → List LockName
+session_names session es lists = names_in es (slots_of session lists)
+
+-- each session has these names
+abbrev pub HaveNames : List (LockName × Held) → List (List (Option ℕ)) → (ℕ → List LockName) → Type 0
+HaveNames es lists names = (s : ℕ) → session_names s es lists ≡ names s
+
+-- the names as they are
+abbrev pub same_names : List (LockName × Held) → List (List (Option ℕ)) → ℕ → List LockName
+same_names es lists s = session_names s es lists
+
+-- the names with one more of a session, behind its others
+abbrev pub with_name_of : ℕ → LockName → List (LockName × Held) → List (List (Option ℕ)) → ℕ → List LockName
+with_name_of session name es lists s = if nat_eq session s then session_names session es lists ++ name ∷ [] else session_names s es lists
+
+-- the names without one
+abbrev pub without_name : LockName → List (LockName × Held) → List (List (Option ℕ)) → ℕ → List LockName
+without_name name es lists s = remove_key (same_name name) (session_names s es lists)
+
+-- the names without those of a session
+abbrev pub without_session : ℕ → List (LockName × Held) → List (List (Option ℕ)) → ℕ → List LockName
+without_session session es lists s = if nat_eq session s then [] else session_names s es lists

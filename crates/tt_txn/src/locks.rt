@@ -6,8 +6,9 @@ ghost use Rattle.std.specs.Prelude.{◌≡◌, ◌≢◌, ◌<◌, ◌++◌, ◌
 ghost use Rattle.std.specs.List.{list_any};
 ghost use Rattle.std.specs.Set.{remove_key};
 ghost use Rattle.indexmap.specs.IndexMap.{IsUnique, get};
-ghost use Rattle.tt_txn.specs.Names.{same_name};
-ghost use Rattle.tt_txn.specs.Locks.{names_of, is_session, Holds, names_in, slots_of, slot_at, IsTied, IsTiedBut, Moves};
+ghost use Rattle.tt_txn.specs.Same.{same_name};
+ghost use Rattle.tt_txn.specs.Locks.{names_of, is_session, Holds, names_in, IsTied, IsTiedBut, Moves, HaveNames, same_names, session_names, with_name_of, without_name, without_session};
+ghost use Rattle.tt_txn.specs.Slots.{slots_of, slot_at};
 
 use crate::held::Held;
 use crate::lock_name::LockName;
@@ -28,7 +29,7 @@ pub struct Locks {
 impl Model for Locks {
     ghost use Rattle.std.specs.Prelude.{map};
     ghost use Rattle.indexmap.specs.IndexMap.{IsUnique};
-    ghost use Rattle.tt_txn.specs.Names.{same_name};
+    ghost use Rattle.tt_txn.specs.Same.{same_name};
     ghost use Rattle.tt_txn.specs.Locks.{Holdings, names_in, IsTied};
 
     ghost Value = { Holdings };
@@ -54,7 +55,7 @@ impl Locks {
 
     /// The session that holds a name.
     pub fn holder(&self, name: &LockName) -> Option<u8>
-        ensures { (session : ℕ) → list_any (same_name name.now) (names_of session self.now) ≡ is_session session result }
+        ensures { (s : ℕ) → list_any (same_name name.now) (names_of s self.now) ≡ is_session s result }
     {
         let held = self.names.get(name)?;
         Some(held.session)
@@ -72,7 +73,7 @@ impl Locks {
 
     /// Gives a name back, where one holds it.
     pub fn give_back(&mut self, name: &LockName)
-        ensures { (session : ℕ) → names_of session self.new ≡ remove_key (same_name name.now) (names_of session self.old) }
+        ensures { (s : ℕ) → names_of s self.new ≡ remove_key (same_name name.now) (names_of s self.old) }
     {
         give_back_in(&mut self.names, &mut self.slots, name);
     }
@@ -99,7 +100,7 @@ fn take_out(names: &mut IndexMap<LockName, Held>, at: usize)
 fn release(names: &mut IndexMap<LockName, Held>, slots: &mut [Slots], at: usize)
     requires { IsTiedBut at slots.old names.old.entries }
     ensures tied { IsTied slots.new names.new.entries }
-    ensures names { (session : ℕ) → names_in names.new.entries (slots_of session slots.new) ≡ names_in names.old.entries (slots_of session slots.old) }
+    ensures names { HaveNames names.new.entries slots.new (same_names names.old.entries slots.old) }
     ensures unique { IsUnique same_name names.new }
     ensures counts { (session : ℕ) → length (slots_of session slots.new) ≡ length (slots_of session slots.old) }
 {
@@ -138,8 +139,8 @@ fn take_in(
     requires free { get same_name names.old name ≡ None }
     ensures tied { IsTied slots.new names.new.entries }
     ensures unique { IsUnique same_name names.new }
-    ensures ok { OnOk result ((s : ℕ) → names_in names.new.entries (slots_of s slots.new) ≡ (if nat_eq session s then names_in names.old.entries (slots_of session slots.old) ++ name ∷ [] else names_in names.old.entries (slots_of s slots.old))) }
-    ensures err { OnErr result ((s : ℕ) → names_in names.new.entries (slots_of s slots.new) ≡ names_in names.old.entries (slots_of s slots.old)) }
+    ensures ok { OnOk result (HaveNames names.new.entries slots.new (with_name_of session name names.old.entries slots.old)) }
+    ensures err { OnErr result (HaveNames names.new.entries slots.new (same_names names.old.entries slots.old)) }
 {
     let owner = &mut slots[session as usize];
     let at = owner.len();
@@ -163,7 +164,7 @@ fn give_back_in(names: &mut IndexMap<LockName, Held>, slots: &mut [Slots], name:
     requires unique { IsUnique same_name names.old }
     ensures tied { IsTied slots.new names.new.entries }
     ensures unique { IsUnique same_name names.new }
-    ensures left { (s : ℕ) → names_in names.new.entries (slots_of s slots.new) ≡ remove_key (same_name name.now) (names_in names.old.entries (slots_of s slots.old)) }
+    ensures left { HaveNames names.new.entries slots.new (without_name name.now names.old.entries slots.old) }
 {
     let Some((at, _, held)) = names.get_full(name) else {
         return;
@@ -181,7 +182,7 @@ fn release_last(names: &mut IndexMap<LockName, Held>, slots: &mut [Slots], sessi
     requires unique { IsUnique same_name names.old }
     ensures tied { IsTied slots.new names.new.entries }
     ensures unique { IsUnique same_name names.new }
-    ensures others { (s : ℕ) → s ≢ session → names_in names.new.entries (slots_of s slots.new) ≡ names_in names.old.entries (slots_of s slots.old) }
+    ensures others { (s : ℕ) → s ≢ session → session_names s names.new.entries slots.new ≡ session_names s names.old.entries slots.old }
     ensures fewer { IsTrue result → length (slots_of session slots.new) < length (slots_of session slots.old) }
     ensures none { result ≡ false → slots_of session slots.new ≡ [] }
 {
@@ -203,7 +204,7 @@ fn release_all(names: &mut IndexMap<LockName, Held>, slots: &mut [Slots], sessio
     requires unique { IsUnique same_name names.old }
     ensures tied { IsTied slots.new names.new.entries }
     ensures unique { IsUnique same_name names.new }
-    ensures others { (s : ℕ) → names_in names.new.entries (slots_of s slots.new) ≡ (if nat_eq session s then [] else names_in names.old.entries (slots_of s slots.old)) }
+    ensures others { HaveNames names.new.entries slots.new (without_session session names.old.entries slots.old) }
 {
     while release_last(names, slots, session) {}
 }

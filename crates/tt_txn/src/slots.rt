@@ -1,7 +1,7 @@
 //! The slots of one session: which entries of the table of locks are its names, in the order taken. A name that was given back
 //! before a later one leaves an empty slot, so that no slot behind it moves; the last slot is never empty for long.
 ghost use Rattle.std.specs.Prelude.{◌≡◌, ◌<◌, ℕ, [], ◌∷◌, ◌++◌, Option, None, Some, length, get_or, slice_set, nat_eq, if◌then◌else◌, OnOk, OnErr};
-ghost use Rattle.tt_txn.specs.Locks.{slot_in};
+ghost use Rattle.tt_txn.specs.Slots.{slot_in};
 
 use std::alloc::{AllocError, Global};
 use std::marker::Model;

@@ -6,7 +6,7 @@ use Rattle.std.specs.Ordering.{nat_cmp, ordering_then}
 use Rattle.std.specs.Cmp.Lexicographic.{slice_cmp}
 use Rattle.tt_value.specs.declared.value.Value.{Value}
 use Rattle.tt_value.specs.declared.value.Value.TheVariants.{Null, Int, Number, Text}
-use Rattle.tt_value.specs.Orders.{kind_of, text_of, number_cmp}
+use Rattle.tt_value.specs.Order.{kind_of, text_of, number_cmp}
 
 abbrev within : Value → Value → Ordering
 within a b = ordering_then (number_cmp a b) (slice_cmp nat_cmp (text_of a) (text_of b))

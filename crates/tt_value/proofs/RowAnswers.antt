@@ -1,6 +1,6 @@
 -- What an answer of a reading says of the bytes.
 use Rattle.std.proofs.Common.{◌≡◌, ℕ, List, Result, Ok, Err, Option, Some, None, sym, ◌∙◌, IfOk, IfSome}
-use Rattle.tt_value.specs.WordLaws.{AreBytes}
+use Rattle.tt_value.specs.BigEndianLaws.{AreBytes}
 use Rattle.tt_value.specs.Stored.{IsStored}
 use Rattle.tt_value.specs.StoredLaws.{read_is_stored, stored_is_read}
 use Rattle.tt_value.specs.ReadingRows.{row_in}

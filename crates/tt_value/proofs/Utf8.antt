@@ -1,5 +1,5 @@
 -- The test for UTF-8 and the fact.
-use Rattle.std.proofs.Common.{◌≡◌, ℕ, List, Bool, true, false, String, Vec, refl, sym, subst}
+use Rattle.std.proofs.Common.{◌≡◌, ℕ, List, Bool, true, false, String, Vec, refl, subst}
 use Rattle.std.specs.Str.{is_utf8, IsUtf8}
 use Rattle.std.specs.String.{string_vec}
 use Rattle.std.proofs.lemmas.Str.{IsUtf8-from_is_utf8, is_utf8-from_IsUtf8, IsUtf8-string_bytes}

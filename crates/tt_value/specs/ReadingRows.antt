@@ -1,10 +1,10 @@
 -- What is read at the front of bytes.
-use Rattle.std.specs.Prelude.{ℕ, zero, suc, ◌+◌, ◌==◌, Bool, ◌&&◌, List, [], ◌∷◌, length, take, drop, nat_le, nat_lt, if◌then◌else◌, Option, Some, None, option_map}
+use Rattle.std.specs.Prelude.{ℕ, zero, suc, ◌+◌, ◌==◌, ◌&&◌, List, [], ◌∷◌, length, take, drop, nat_le, nat_lt, if◌then◌else◌, Option, Some, None, option_map}
 use Rattle.std.specs.Int.{cast_signed, w64}
 use Rattle.std.specs.Int.RustNames.{unsigned_abs}
 use Rattle.std.specs.Str.{is_utf8}
-use Rattle.tt_value.specs.Words.{number}
-use Rattle.tt_value.specs.declared.TheConstants.{ROW_MAX, VALUES_MAX, TEXT_MAX, SCALE_MAX, UNITS_END}
+use Rattle.tt_value.specs.BigEndian.{number}
+use Rattle.tt_value.specs.Limits.{row_most, values_most, text_most, scale_most, units_end}
 use Rattle.tt_value.specs.declared.value.Value.{Value}
 use Rattle.tt_value.specs.declared.value.Value.TheVariants.{Null, Int, Number, Text}
 use Rattle.tt_value.specs.declared.value.Row.{Row}
@@ -18,14 +18,14 @@ unfoldable pub number_at : List ℕ → Option (Value × ℕ)
 number_at [] = None
 number_at (scale ∷ z) =
     let units = cast_signed w64 (number 8 z) in
-    if nat_le 8 (length z) && (nat_le scale SCALE_MAX && nat_lt (unsigned_abs units) UNITS_END) then Some (Number scale units, 10) else None
+    if nat_le 8 (length z) && (nat_le scale scale_most && nat_lt (unsigned_abs units) units_end) then Some (Number scale units, 10) else None
 
 -- a length, and a text of so many bytes
 unfoldable pub text_at : List ℕ → Option (Value × ℕ)
 text_at z =
     let size = number 2 z in
     let text = take size (drop 2 z) in
-    if nat_le 2 (length z) && (nat_le size TEXT_MAX && (nat_le (size + 2) (length z) && is_utf8 text)) then Some (Text text, size + 3) else None
+    if nat_le 2 (length z) && (nat_le size text_most && (nat_le (size + 2) (length z) && is_utf8 text)) then Some (Text text, size + 3) else None
 
 -- by the tag
 abbrev pub tagged_at : ℕ → List ℕ → Option (Value × ℕ)
@@ -58,4 +58,4 @@ row_of vs = record { values = vs }
 unfoldable pub row_in : List ℕ → Option Row
 row_in [] = None
 row_in (count ∷ z) =
-    if nat_le (1 + length z) ROW_MAX && (nat_le 1 count && nat_le count VALUES_MAX) then option_map row_of (values_in count z) else None
+    if nat_le (1 + length z) row_most && (nat_le 1 count && nat_le count values_most) then option_map row_of (values_in count z) else None

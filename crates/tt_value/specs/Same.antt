@@ -1,5 +1,5 @@
 -- When two values are one and the same: a number has its scale, and a whole number isn't a number of scale 0.
-use Rattle.std.specs.Prelude.{ℕ, Bool, true, false, ◌&&◌, nat_eq, ◌++◌}
+use Rattle.std.specs.Prelude.{Bool, true, false, ◌&&◌, nat_eq, ◌++◌}
 use Rattle.std.specs.Ordering.{int_eq}
 use Rattle.std.specs.Str.{bytes_eq}
 use Rattle.std.specs.Cmp.Lexicographic.{pointwise}

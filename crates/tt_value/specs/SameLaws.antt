@@ -1,8 +1,6 @@
 -- Values that are the same are equal.
-use Rattle.std.proofs.Common.{ℕ, ℤ, Bool, true, false, ◌&&◌, nat_eq, List, ◌≡◌, refl, sym, ap, ap₂, ◌∙◌}
+use Rattle.std.proofs.Common.{Bool, true, ◌&&◌, nat_eq, List, ◌≡◌, refl, sym, ap, ap₂, ◌∙◌}
 use Rattle.std.specs.Ordering.{int_eq}
-use Rattle.std.specs.Str.{bytes_eq}
-use Rattle.std.specs.Cmp.Lexicographic.{pointwise}
 use Rattle.std.specs.Cmp.{IsEquivalence, IsPartialEquivalence, partial_equiv_from_equiv}
 use Rattle.std.specs.Bool.{Decides}
 use Rattle.std.proofs.lemmas.Bool.{and_parts}

@@ -1,10 +1,10 @@
 -- The stored form of a row: one byte with the number of its values, then the values, each a tag and its bytes.
-use Rattle.std.specs.Prelude.{◌≡◌, ◌<◌, ◌≤◌, ◌^◌, ℕ, ℤ, List, [], ◌∷◌, ◌++◌, length, IsUtf8}
+use Rattle.std.specs.Prelude.{◌≡◌, ◌<◌, ◌≤◌, ◌^◌, ℕ, List, [], ◌∷◌, ◌++◌, length, IsUtf8}
 use Rattle.std.specs.Int.{cast_unsigned, w64}
 use Rattle.std.specs.Int.RustNames.{FitsSigned, unsigned_abs}
 use Rattle.std.specs.List.{flat_map, All}
-use Rattle.tt_value.specs.Words.{big_endian}
-use Rattle.tt_value.specs.declared.TheConstants.{ROW_MAX, VALUES_MAX, TEXT_MAX, SCALE_MAX, UNITS_END}
+use Rattle.tt_value.specs.BigEndian.{big_endian}
+use Rattle.tt_value.specs.Limits.{row_most, values_most, text_most, scale_most, units_end, lengths_end}
 use Rattle.tt_value.specs.declared.value.Value.{Value}
 use Rattle.tt_value.specs.declared.value.Value.TheVariants.{Null, Int, Number, Text}
 use Rattle.tt_value.specs.declared.value.Row.{Row}
@@ -28,20 +28,20 @@ row_bytes r = length r.values ∷ values_bytes r.values
 abbrev pub IsStorableValue : Value → Type 0
 IsStorableValue Null = Unit {0}
 IsStorableValue (Int n) = FitsSigned w64 n
-IsStorableValue (Number scale units) = (scale ≤ SCALE_MAX) × (unsigned_abs units < UNITS_END)
-IsStorableValue (Text text) = (length text ≤ TEXT_MAX) × IsUtf8 text
+IsStorableValue (Number scale units) = (scale ≤ scale_most) × (unsigned_abs units < units_end)
+IsStorableValue (Text text) = (length text ≤ text_most) × IsUtf8 text
 
 -- a text whose length has two bytes
 abbrev pub HasLength : Value → Type 0
-HasLength (Text text) = length text < 65536
+HasLength (Text text) = length text < lengths_end
 HasLength v = Unit {0}
 
 -- a row that can be stored
 pub record IsStorable (r : Row) : Type 0 where
   pub some : 1 ≤ length r.values
-  pub few : length r.values ≤ VALUES_MAX
+  pub few : length r.values ≤ values_most
   pub in_range : All IsStorableValue r.values
-  pub short : length (row_bytes r) ≤ ROW_MAX
+  pub short : length (row_bytes r) ≤ row_most
 
 -- the bytes are those of the row, and nothing follows them
 abbrev pub IsStored : List ℕ → Row → Type 0

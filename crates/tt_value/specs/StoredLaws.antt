@@ -1,25 +1,23 @@
 -- What is read at the front of bytes is what stands there.
-use Rattle.std.proofs.Common.{◌≡◌, ◌≤◌, ◌<◌, ◌+◌, ◌-◌, ◌^◌, ◌==◌, ℕ, ℤ, zero, suc, Bool, true, false, ◌&&◌, List, [], ◌∷◌, ◌++◌, length, take, drop, get_or, nat_le, nat_lt, if◌then◌else◌, refl, sym, ap, ap₂, ◌∙◌, subst, arith, append_assoc, length-append, length-take, le-leb, inl, inr, ◌⊎◌, Option, Some, None, option_map}
+use Rattle.std.proofs.Common.{◌≡◌, ◌≤◌, ◌<◌, ◌+◌, ◌^◌, ◌==◌, ℕ, ℤ, zero, suc, Bool, true, false, ◌&&◌, List, [], ◌∷◌, ◌++◌, length, take, drop, nat_le, nat_lt, if◌then◌else◌, refl, sym, ap, ap₂, ◌∙◌, subst, arith, append_assoc, length-append, le-leb, inl, inr, ◌⊎◌, Option, Some, None, option_map}
 use Rattle.std.specs.Int.{w64, cast_signed, cast_unsigned}
 use Rattle.std.specs.Int.RustNames.{FitsSigned, unsigned_abs}
-use Rattle.std.specs.List.{flat_map, All}
 use Rattle.std.specs.Str.{is_utf8, IsUtf8}
 use Rattle.std.proofs.lemmas.Int.{to_z-of_z, of_z-to_z, ints, fits_signed_from_abs}
 use Rattle.std.proofs.Math.Facts.{sfits_to_z}
-use Rattle.std.proofs.lemmas.List.{take-append-drop, drop-drop}
+use Rattle.std.proofs.lemmas.List.{take-append-drop, drop-drop, length-drop, length-take-le}
 use Rattle.std.proofs.Math.Seq.{take-append_seam, drop-append_seam}
 use Rattle.std.proofs.lemmas.Option.{cond_some}
 use Rattle.std.proofs.lemmas.Bool.{leb-true, ltb-true, lt-ltb, eqb-true}
 use Rattle.std.proofs.lemmas.Str.{IsUtf8-from_is_utf8, is_utf8-from_IsUtf8}
-use Rattle.std.proofs.lemmas.List.{length-drop, length-take-le}
 use Rattle.std.proofs.lemmas.List.Elements.{All-from_recursion, recursion_from_All}
 use Rattle.std.specs.List.{AllByRecursion}
 use Rattle.byteorder.specs.Numbers.{big_from-lt}
-use Rattle.tt_value.specs.Words.{big_endian, number}
-use Rattle.tt_value.specs.WordLaws.{AreBytes, length-big_endian, number-big_endian, drop-big_endian, big_endian-number_2, big_endian-number_8, drop_bytes}
-use Rattle.tt_value.specs.Stored.{value_bytes, values_bytes, row_bytes, IsStorableValue, IsStorable, IsStored}
-use Rattle.tt_value.specs.ReadingRows.{int_at, number_at, text_at, value_at, tagged_at, values_in, row_in, behind, with_rest, row_of}
-use Rattle.tt_value.specs.declared.TheConstants.{ROW_MAX, VALUES_MAX, TEXT_MAX, SCALE_MAX, UNITS_END}
+use Rattle.tt_value.specs.BigEndian.{big_endian, number}
+use Rattle.tt_value.specs.BigEndianLaws.{AreBytes, length-big_endian, number-big_endian, drop-big_endian, big_endian-number_2, big_endian-number_8, drop_bytes}
+use Rattle.tt_value.specs.Stored.{value_bytes, values_bytes, IsStorableValue, IsStored}
+use Rattle.tt_value.specs.ReadingRows.{int_at, number_at, text_at, value_at, values_in, row_in, behind, with_rest, row_of}
+use Rattle.tt_value.specs.Limits.{row_most, values_most, text_most, scale_most, units_end}
 use Rattle.tt_value.specs.declared.value.Value.{Value}
 use Rattle.tt_value.specs.declared.value.Value.TheVariants.{Null, Int, Number, Text}
 use Rattle.tt_value.specs.declared.value.Row.{Row}
@@ -32,7 +30,7 @@ number-below n z h = big_from-lt 0 n z h
 unsigned_below : (n : ℤ) → FitsSigned w64 n → cast_unsigned w64 n < 256 ^ 8
 unsigned_below n fits = omega (arith, ints, fits)
 
-units_fit : (n : ℤ) → unsigned_abs n < UNITS_END → FitsSigned w64 n
+units_fit : (n : ℤ) → unsigned_abs n < units_end → FitsSigned w64 n
 units_fit n small = fits_signed_from_abs w64 n (omega (arith, small))
 
 -- ---- what is read stands there
@@ -85,14 +83,14 @@ takes_number [] y b e = cc
 takes_number (scale ∷ z) y b e =
     let rest : AreBytes z = λ i. b (suc i) in
     let units = cast_signed w64 (number 8 z) in
-    let (test, same) = found (nat_le 8 (length z) && (nat_le scale SCALE_MAX && nat_lt (unsigned_abs units) UNITS_END)) (Number scale units, 10) y e in
-    let (long, limits) = both (nat_le 8 (length z)) (nat_le scale SCALE_MAX && nat_lt (unsigned_abs units) UNITS_END) test in
-    let (low, small) = both (nat_le scale SCALE_MAX) (nat_lt (unsigned_abs units) UNITS_END) limits in
+    let (test, same) = found (nat_le 8 (length z) && (nat_le scale scale_most && nat_lt (unsigned_abs units) units_end)) (Number scale units, 10) y e in
+    let (long, limits) = both (nat_le 8 (length z)) (nat_le scale scale_most && nat_lt (unsigned_abs units) units_end) test in
+    let (low, small) = both (nat_le scale scale_most) (nat_lt (unsigned_abs units) units_end) limits in
     let enough : 8 ≤ length z = leb-true 8 (length z) long in
     takes_again (2 ∷ scale ∷ z) (Number scale units, 10) y same (record {
       bytes = ap (λ l. 2 ∷ scale ∷ l) (sym (signed_bytes z enough rest));
       count = omega (arith, length-big_endian 8 (cast_unsigned w64 units));
-      range = (leb-true scale SCALE_MAX low, ltb-true (unsigned_abs units) UNITS_END small);
+      range = (leb-true scale scale_most low, ltb-true (unsigned_abs units) units_end small);
     })
 
 -- a length, a text and the rest are the whole
@@ -112,9 +110,9 @@ unfolding text_at
 takes_text z y b e =
     let size = number 2 z in
     let text = take size (drop 2 z) in
-    let (test, same) = found (nat_le 2 (length z) && (nat_le size TEXT_MAX && (nat_le (size + 2) (length z) && is_utf8 text))) (Text text, size + 3) y e in
-    let (two, more) = both (nat_le 2 (length z)) (nat_le size TEXT_MAX && (nat_le (size + 2) (length z) && is_utf8 text)) test in
-    let (few, last) = both (nat_le size TEXT_MAX) (nat_le (size + 2) (length z) && is_utf8 text) more in
+    let (test, same) = found (nat_le 2 (length z) && (nat_le size text_most && (nat_le (size + 2) (length z) && is_utf8 text))) (Text text, size + 3) y e in
+    let (two, more) = both (nat_le 2 (length z)) (nat_le size text_most && (nat_le (size + 2) (length z) && is_utf8 text)) test in
+    let (few, last) = both (nat_le size text_most) (nat_le (size + 2) (length z) && is_utf8 text) more in
     let (long, utf8) = both (nat_le (size + 2) (length z)) (is_utf8 text) last in
     let enough : size + 2 ≤ length z = leb-true (size + 2) (length z) long in
     let l : length text ≡ size = length-take-le size (drop 2 z) (omega (arith, length-drop 2 z)) in
@@ -122,7 +120,7 @@ takes_text z y b e =
     takes_again (3 ∷ z) (Text text, size + 3) y same (record {
       bytes = sym (ap (λ r. 3 ∷ ((big_endian 2 (length text) ++ text) ++ r)) past ∙ ap (λ r. 3 ∷ r) (text_bytes z text size refl refl enough b));
       count = omega (arith, l, length-append (big_endian 2 (length text)) text, length-big_endian 2 (length text));
-      range = (omega (arith, l, leb-true size TEXT_MAX few), IsUtf8-from_is_utf8 text utf8);
+      range = (omega (arith, l, leb-true size text_most few), IsUtf8-from_is_utf8 text utf8);
     })
 
 chosen : (t : Bool) (x y z : Option (Value × ℕ)) → (if t then x else y) ≡ z → ((t ≡ true) × (x ≡ z)) ⊎ ((t ≡ false) × (y ≡ z))
@@ -159,16 +157,16 @@ int_again n rest fits =
     let back : cast_signed w64 (number 8 (big_endian 8 u ++ rest)) ≡ n = ap (cast_signed w64) (number-big_endian 8 u rest (unsigned_below n fits)) ∙ to_z-of_z w64 n fits in
     rw (long, back) refl
 
-number_again : (scale : ℕ) (units : ℤ) (rest : List ℕ) → FitsSigned w64 units → scale ≤ SCALE_MAX → unsigned_abs units < UNITS_END →
+number_again : (scale : ℕ) (units : ℤ) (rest : List ℕ) → FitsSigned w64 units → scale ≤ scale_most → unsigned_abs units < units_end →
     number_at (scale ∷ (big_endian 8 (cast_unsigned w64 units) ++ rest)) ≡ Some (pair_of (Number scale units) 10)
 unfolding number_at
 number_again scale units rest fits low small =
     let u = cast_unsigned w64 units in
     let long : nat_le 8 (length (big_endian 8 u ++ rest)) ≡ true = le-leb 8 (length (big_endian 8 u ++ rest)) (omega (arith, length-append (big_endian 8 u) rest, length-big_endian 8 u)) in
     let back : cast_signed w64 (number 8 (big_endian 8 u ++ rest)) ≡ units = ap (cast_signed w64) (number-big_endian 8 u rest (unsigned_below units fits)) ∙ to_z-of_z w64 units fits in
-    rw (long, back, le-leb scale SCALE_MAX low, lt-ltb (unsigned_abs units) UNITS_END small) refl
+    rw (long, back, le-leb scale scale_most low, lt-ltb (unsigned_abs units) units_end small) refl
 
-text_again : (text rest : List ℕ) → length text ≤ TEXT_MAX → IsUtf8 text →
+text_again : (text rest : List ℕ) → length text ≤ text_most → IsUtf8 text →
     text_at ((big_endian 2 (length text) ++ text) ++ rest) ≡ Some (pair_of (Text text) (length text + 3))
 unfolding text_at
 text_again text rest few utf8 =
@@ -180,7 +178,7 @@ text_again text rest few utf8 =
     let total : length z ≡ 2 + (length text + length rest) = ap length flat ∙ (omega (arith, length-append (big_endian 2 (length text)) (text ++ rest), length-big_endian 2 (length text), length-append text rest)) in
     let two : nat_le 2 (length z) ≡ true = le-leb 2 (length z) (omega arith) in
     let long : nat_le (length text + 2) (length z) ≡ true = le-leb (length text + 2) (length z) (omega arith) in
-    rw (size, cut, two, long, le-leb (length text) TEXT_MAX few, is_utf8-from_IsUtf8 text utf8) refl
+    rw (size, cut, two, long, le-leb (length text) text_most few, is_utf8-from_IsUtf8 text utf8) refl
 
 -- in the ranges of the types and of what is stored
 pub again : (v : Value) (rest : List ℕ) → IsStorableValue v → value_at (value_bytes v ++ rest) ≡ Some (pair_of v (length (value_bytes v)))
@@ -238,7 +236,7 @@ values_again (v ∷ vs) range =
 same_row_of : (r s : Row) → Some r ≡ Some s → r ≡ s
 same_row_of r s e = cc
 
-row_from : (count : ℕ) (z : List ℕ) (o : Option (List Value)) (r : Row) → 1 + length z ≤ ROW_MAX → 1 ≤ count → count ≤ VALUES_MAX → ((vs : List Value) → o ≡ Some vs → TakesAll count z vs) → option_map row_of o ≡ Some r → IsStored (count ∷ z) r
+row_from : (count : ℕ) (z : List ℕ) (o : Option (List Value)) (r : Row) → 1 + length z ≤ row_most → 1 ≤ count → count ≤ values_most → ((vs : List Value) → o ≡ Some vs → TakesAll count z vs) → option_map row_of o ≡ Some r → IsStored (count ∷ z) r
 row_from count z None r short some few takes e = cc
 row_from count z (Some vs) r short some few takes e =
     let t = takes vs refl in
@@ -263,20 +261,20 @@ pub read_is_stored : (bytes : List ℕ) (r : Row) → AreBytes bytes → row_in 
 unfolding row_in
 read_is_stored [] r b e = cc
 read_is_stored (count ∷ z) r b e =
-    let (test, o) = found_row (nat_le (1 + length z) ROW_MAX && (nat_le 1 count && nat_le count VALUES_MAX)) (option_map row_of (values_in count z)) r e in
-    let (short, counts) = both (nat_le (1 + length z) ROW_MAX) (nat_le 1 count && nat_le count VALUES_MAX) test in
-    let (some, few) = both (nat_le 1 count) (nat_le count VALUES_MAX) counts in
-    row_from count z (values_in count z) r (leb-true (1 + length z) ROW_MAX short) (leb-true 1 count some) (leb-true count VALUES_MAX few) (λ vs. takes_values count z vs (λ i. b (suc i))) o
+    let (test, o) = found_row (nat_le (1 + length z) row_most && (nat_le 1 count && nat_le count values_most)) (option_map row_of (values_in count z)) r e in
+    let (short, counts) = both (nat_le (1 + length z) row_most) (nat_le 1 count && nat_le count values_most) test in
+    let (some, few) = both (nat_le 1 count) (nat_le count values_most) counts in
+    row_from count z (values_in count z) r (leb-true (1 + length z) row_most short) (leb-true 1 count some) (leb-true count values_most few) (λ vs. takes_values count z vs (λ i. b (suc i))) o
 
 -- what is stored so is read
 pub stored_is_read : (bytes : List ℕ) (r : Row) → IsStored bytes r → row_in bytes ≡ Some r
 unfolding row_in
 stored_is_read bytes r s =
     let vs = r.values in
-    let short : nat_le (1 + length (values_bytes vs)) ROW_MAX ≡ true = le-leb (1 + length (values_bytes vs)) ROW_MAX (omega (arith, s.0.short)) in
+    let short : nat_le (1 + length (values_bytes vs)) row_most ≡ true = le-leb (1 + length (values_bytes vs)) row_most (omega (arith, s.0.short)) in
     let back : values_in (length vs) (values_bytes vs) ≡ Some vs = values_again vs (recursion_from_All IsStorableValue vs s.0.in_range) in
     ap row_in s.1
-    ∙ rw (short, le-leb 1 (length vs) s.0.some, le-leb (length vs) VALUES_MAX s.0.few, back) refl
+    ∙ rw (short, le-leb 1 (length vs) s.0.some, le-leb (length vs) values_most s.0.few, back) refl
 
 -- the bytes are those of one row alone
 pub stored_once : (bytes : List ℕ) (r s : Row) → IsStored bytes r → IsStored bytes s → r ≡ s

@@ -1,3 +1,5 @@
+//! Copies of values that own memory.
+
 ghost use Rattle.std.specs.Prelude.{◌≡◌, IfOk};
 
 use std::alloc::{AllocError, Global};

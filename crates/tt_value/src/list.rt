@@ -1,3 +1,5 @@
+//! Lists, which contracts see as the lists of their elements.
+
 ghost use Rattle.std.specs.Prelude.{◌≡◌, [], ◌∷◌, ◌++◌, ◌<◌, length, take, drop, slice_get, remove, IfOk, OnOk, OnErr, OnSome};
 ghost use Rattle.std.specs.Option.{option_copied};
 
@@ -72,12 +74,12 @@ impl<T> List<T> {
         self.items.len()
     }
 
-    /// The element at a place, the first being 0; `None` past the last.
-    pub fn get(&self, at: usize) -> Option<&T>
-        ensures value { option_copied result ≡ slice_get self.now at }
-        ensures within { OnSome result (at < length self.now) }
+    /// The element at an index, the first being 0; `None` past the last.
+    pub fn get(&self, index: usize) -> Option<&T>
+        ensures value { option_copied result ≡ slice_get self.now index }
+        ensures within { OnSome result (index < length self.now) }
     {
-        self.items.get(at)
+        self.items.get(index)
     }
 }
 
@@ -91,13 +93,13 @@ impl<T: Drop> List<T> {
         Ok(())
     }
 
-    /// Takes the element at a place out of the list.
-    pub fn remove(&mut self, at: usize) -> T
-        requires { at < length self.old }
-        ensures item { slice_get self.old at ≡ Some result }
-        ensures rest { self.new ≡ remove self.old at }
+    /// Takes the element at an index out of the list.
+    pub fn remove(&mut self, index: usize) -> T
+        requires { index < length self.old }
+        ensures item { slice_get self.old index ≡ Some result }
+        ensures rest { self.new ≡ remove self.old index }
     {
-        self.items.remove(at)
+        self.items.remove(index)
     }
 }
 

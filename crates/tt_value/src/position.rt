@@ -1,14 +1,15 @@
-// Positions in the log and their order.
+//! Positions in the log and their order.
+
 ghost use Rattle.std.proofs.Common.{rules};
 ghost use Rattle.std.specs.Cmp.{partial_order_from_own_ties};
 ghost use Rattle.std.specs.Cmp.Rules.{comparing};
 ghost use Rattle.std.specs.Ordering.{as_partial_cmp};
-ghost use Rattle.tt_value.specs.Positions.{position_cmp};
+ghost use Rattle.tt_value.specs.Position.{position_cmp};
 
 use std::cmp::Ordering;
 
-/// A place in the log: a file's number, and the length of the entries before the place in that file, in bytes. The
-/// order is by file, then by offset.
+/// A position in the log: a file's number, and the length of the entries before the position in that file, in bytes.
+/// The order is by file, then by offset.
 #[derive(Clone, Copy, Debug, PartialEq, Eq)]
 pub struct Position {
     pub file: u32,

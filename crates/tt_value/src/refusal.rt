@@ -1,6 +1,7 @@
-// Why a line has no effect.
+//! The refusals of lines. Each has a number, a name and at most one field, by which a reply tells it.
+
 ghost use Rattle.std.specs.Prelude.{◌≡◌, ◌≤◌, IfSome, length, option_map};
-ghost use Rattle.tt_value.specs.Refusals.{number_of, name_of, field_of};
+ghost use Rattle.tt_value.specs.Refusal.{number_of, name_of, field_of};
 
 /// Why a line has no effect.
 #[derive(Clone, Copy, Debug, PartialEq, Eq)]

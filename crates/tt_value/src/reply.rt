@@ -1,4 +1,5 @@
-// What a line is answered.
+//! What the engine says to the outside: what a line is answered, and what ends a run.
+
 use crate::ident::Ident;
 use crate::list::List;
 use crate::position::Position;

@@ -1,4 +1,5 @@
 //! When values and rows are the same, and their hashes.
+
 ghost use Rattle.std.specs.Prelude.{◌++◌};
 ghost use Rattle.std.specs.Hash as fed;
 ghost use Rattle.tt_value.specs.Same.{same_value, same_row, fed_value};

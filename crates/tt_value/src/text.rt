@@ -1,3 +1,5 @@
+//! Texts, which are UTF-8. A text is tested once, where it is made.
+
 ghost use Rattle.std.specs.Prelude.{◌≡◌, IfOk, IsUtf8, MatchOption};
 
 use crate::duplicate::Duplicate;

@@ -1,6 +1,7 @@
-// Three-valued truth.
+//! Truth with a third value for what a comparison with Null says.
+
 ghost use Rattle.std.specs.Prelude.{◌≡◌};
-ghost use Rattle.tt_value.specs.Truths.{truth_of, negated, both_of, either_of};
+ghost use Rattle.tt_value.specs.Truth.{truth_of, negated, both_of, either_of};
 
 /// What a condition is of a row: a comparison with Null is `Unknown`.
 #[derive(Clone, Copy, Debug, PartialEq, Eq)]

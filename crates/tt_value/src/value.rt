@@ -1,3 +1,5 @@
+//! Values, rows and cells, and what a column takes.
+
 ghost use Rattle.std.specs.Prelude.{◌≡◌, IfOk};
 
 use crate::duplicate::Duplicate;
@@ -20,7 +22,7 @@ pub struct Row {
     pub values: List<Value>,
 }
 
-/// What lies in a place: nothing, or a row of the table with that id, which isn't 0.
+/// What lies at a place: nothing, or a row of the table with that id, which isn't 0.
 #[derive(Debug, Drop, PartialEq, Eq)]
 pub enum Cell {
     Empty,

@@ -1,30 +1,135 @@
-// One file in memory, and the calls on it since its last sync.
+//! One file in memory. A call that changes it notes its step first, and is then done, unless it is to fail; a sync forgets the
+//! steps. So what a crash may leave follows from what the last sync left and the steps since.
 ghost use Rattle.std.specs.Prelude.{◌≡◌, ◌+◌, ◌≤◌, [], List, ℕ, Option, Some, None, IsSome, IsErr, IsTrue, length, OnOk, OnErr};
-ghost use Rattle.tt_disk.specs.Effects.{contents, Leads};
-ghost use Rattle.tt_disk.specs.Volume.{size_of, overwritten, written, Torn, Created, CreatedFrom, Made, Removed};
+ghost use Rattle.tt_disk.specs.Failing.{IfNoted};
+ghost use Rattle.tt_disk.specs.Steps.{contents, Leads};
+ghost use Rattle.tt_disk.specs.Volume.{File, size_of, overwritten, written, Torn, Created, CreatedFrom, Made, Removed};
 
-use crate::{Failed, Name};
+use super::failing::Failure;
+use crate::Name;
 use std::alloc::{AllocError, Global};
 
-// A call that changes a file.
+// A step of a call that changes a file.
 #[derive(Clone, Copy, Debug)]
 pub(super) enum Step {
-    // Of a file that was there, and of one that wasn't.
+    // A create of a file that was there.
     Create,
+    // A create of a file that wasn't there.
     Make,
     Write { at: u64, len: u64 },
     Remove,
 }
 
-// A file as a read gives it, as the last sync left it, and the calls since then that changed it or may have.
+// A file as a read gives it, as the last sync left it, and the steps since then that were done or may have been.
 #[derive(Drop)]
 pub(super) struct MemFile {
     pub(super) name: Name,
     pub(super) bytes: Option<Vec<u8>>,
     pub(super) settled: Option<Vec<u8>>,
     pub(super) steps: Vec<Step>,
-    // What a read gives is among what these calls may lead to.
+    // What a read gives is among what these steps may lead to.
     ghost led: { ∥ Leads steps.items (contents settled) (contents bytes) ∥₁ },
+}
+
+impl MemFile {
+    ghost use Rattle.tt_disk.specs.File.{file_may, FileSteps, Reaches};
+
+    // Makes it, or empties it. Where the call is to fail, a crash may leave it done all the same.
+    pub(super) fn create(&mut self, alloc: Global, fails: bool) -> Result<(), Failure>
+        ensures done { OnOk result (contents self.new.bytes ≡ Some []) }
+        ensures steps { FileSteps (CreatedFrom (contents self.old.bytes)) self.old self.new }
+        ensures reaches { IfNoted result (Reaches (CreatedFrom (contents self.old.bytes)) self.old self.new) }
+        ensures planned { IsTrue fails → IsErr result }
+    {
+        match &self.bytes {
+            Some(_) => self.empty(alloc, fails),
+            None => self.make(alloc, fails),
+        }
+    }
+
+    fn make(&mut self, alloc: Global, fails: bool) -> Result<(), Failure>
+        ensures done { OnOk result (contents self.new.bytes ≡ Some []) }
+        ensures steps { FileSteps Made self.old self.new }
+        ensures reaches { IfNoted result (Reaches Made self.old self.new) }
+        ensures planned { IsTrue fails → IsErr result }
+    {
+        if self.steps.push(Step::Make).is_err() {
+            return Err(Failure::NotNoted);
+        }
+        if fails {
+            return Err(Failure::Noted);
+        }
+        self.bytes = Some(Vec::new(alloc));
+        Ok(())
+    }
+
+    fn empty(&mut self, alloc: Global, fails: bool) -> Result<(), Failure>
+        ensures done { OnOk result (contents self.new.bytes ≡ Some []) }
+        ensures steps { FileSteps Created self.old self.new }
+        ensures reaches { IfNoted result (Reaches Created self.old self.new) }
+        ensures planned { IsTrue fails → IsErr result }
+    {
+        if self.steps.push(Step::Create).is_err() {
+            return Err(Failure::NotNoted);
+        }
+        if fails {
+            return Err(Failure::Noted);
+        }
+        self.bytes = Some(Vec::new(alloc));
+        Ok(())
+    }
+
+    pub(super) fn write_at(&mut self, at: u64, bytes: &[u8], fails: bool) -> Result<(), Failure>
+        requires there { IsSome (contents self.old.bytes) }
+        requires within { at ≤ size_of (contents self.old.bytes) }
+        ensures done { OnOk result (contents self.new.bytes ≡ written at bytes.now (contents self.old.bytes)) }
+        ensures steps { FileSteps (Torn at (length bytes.now)) self.old self.new }
+        ensures reaches { IfNoted result (Reaches (Torn at (length bytes.now)) self.old self.new) }
+        ensures planned { IsTrue fails → IsErr result }
+    {
+        let len = bytes.len() as u64;
+        if self.steps.push(Step::Write { at, len }).is_err() {
+            return Err(Failure::NotNoted);
+        }
+        if fails {
+            return Err(Failure::Noted);
+        }
+        match &mut self.bytes {
+            Some(content) => overwrite(content, at as usize, bytes).map_err(|_| Failure::Noted),
+            None => Err(Failure::NotNoted),
+        }
+    }
+
+    pub(super) fn sync(&mut self, alloc: Global) -> Result<(), AllocError>
+        ensures name { self.new.name ≡ self.old.name }
+        ensures unchanged { contents self.new.bytes ≡ contents self.old.bytes }
+        ensures settled { OnOk result ((c : File) → file_may self.new c → c ≡ contents self.new.bytes) }
+        ensures crash { (c : File) → file_may self.new c → file_may self.old c }
+        ensures unsettled { OnErr result ((c : File) → file_may self.old c → file_may self.new c) }
+    {
+        self.settled = match &self.bytes {
+            Some(content) => Some(content.to_vec(alloc)?),
+            None => None,
+        };
+        self.steps.clear();
+        Ok(())
+    }
+
+    pub(super) fn remove(&mut self, fails: bool) -> Result<(), Failure>
+        ensures done { OnOk result (contents self.new.bytes ≡ None) }
+        ensures steps { FileSteps Removed self.old self.new }
+        ensures reaches { IfNoted result (Reaches Removed self.old self.new) }
+        ensures planned { IsTrue fails → IsErr result }
+    {
+        if self.steps.push(Step::Remove).is_err() {
+            return Err(Failure::NotNoted);
+        }
+        if fails {
+            return Err(Failure::Noted);
+        }
+        self.bytes = None;
+        Ok(())
+    }
 }
 
 // Writes over a file's bytes from an offset on.
@@ -41,93 +146,4 @@ fn overwrite(content: &mut Vec<u8>, at: usize, bytes: &[u8]) -> Result<(), Alloc
         content[at..at + room].copy_from_slice(&bytes[..room]);
     }
     Ok(())
-}
-
-impl MemFile {
-    ghost use Rattle.tt_disk.specs.Memory.{file_may, FileSteps, Reaches};
-
-    // Makes it, or empties it. Where the call is to fail, a crash may leave it done all the same.
-    pub(super) fn create(&mut self, alloc: Global, fails: bool) -> Result<(), Failed>
-        ensures done { OnOk result (contents self.new.bytes ≡ Some []) }
-        ensures steps { FileSteps (CreatedFrom (contents self.old.bytes)) self.old self.new }
-        ensures reaches { OnOk result (Reaches (CreatedFrom (contents self.old.bytes)) self.old self.new) }
-        ensures planned { IsTrue fails → IsErr result }
-    {
-        match &self.bytes {
-            Some(_) => self.empty(alloc, fails),
-            None => self.make(alloc, fails),
-        }
-    }
-
-    fn make(&mut self, alloc: Global, fails: bool) -> Result<(), Failed>
-        ensures done { OnOk result (contents self.new.bytes ≡ Some []) }
-        ensures steps { FileSteps Made self.old self.new }
-        ensures reaches { OnOk result (Reaches Made self.old self.new) }
-        ensures planned { IsTrue fails → IsErr result }
-    {
-        if self.steps.push(Step::Make).is_err() || fails {
-            return Err(Failed);
-        }
-        self.bytes = Some(Vec::new(alloc));
-        Ok(())
-    }
-
-    fn empty(&mut self, alloc: Global, fails: bool) -> Result<(), Failed>
-        ensures done { OnOk result (contents self.new.bytes ≡ Some []) }
-        ensures steps { FileSteps Created self.old self.new }
-        ensures reaches { OnOk result (Reaches Created self.old self.new) }
-        ensures planned { IsTrue fails → IsErr result }
-    {
-        if self.steps.push(Step::Create).is_err() || fails {
-            return Err(Failed);
-        }
-        self.bytes = Some(Vec::new(alloc));
-        Ok(())
-    }
-
-    pub(super) fn write_at(&mut self, at: u64, bytes: &[u8], fails: bool) -> Result<(), Failed>
-        requires there { IsSome (contents self.old.bytes) }
-        requires within { at ≤ size_of (contents self.old.bytes) }
-        ensures done { OnOk result (contents self.new.bytes ≡ written at bytes.now (contents self.old.bytes)) }
-        ensures steps { FileSteps (Torn at (length bytes.now)) self.old self.new }
-        ensures reaches { OnOk result (Reaches (Torn at (length bytes.now)) self.old self.new) }
-        ensures planned { IsTrue fails → IsErr result }
-    {
-        let len = bytes.len() as u64;
-        if self.steps.push(Step::Write { at, len }).is_err() || fails {
-            return Err(Failed);
-        }
-        match &mut self.bytes {
-            Some(content) => overwrite(content, at as usize, bytes).map_err(|_| Failed),
-            None => Err(Failed),
-        }
-    }
-
-    pub(super) fn sync(&mut self, alloc: Global) -> Result<(), AllocError>
-        ensures name { self.new.name ≡ self.old.name }
-        ensures same { contents self.new.bytes ≡ contents self.old.bytes }
-        ensures settled { OnOk result ((c : Option (List ℕ)) → file_may self.new c → c ≡ contents self.new.bytes) }
-        ensures crash { (c : Option (List ℕ)) → file_may self.new c → file_may self.old c }
-        ensures unsettled { OnErr result ((c : Option (List ℕ)) → file_may self.old c → file_may self.new c) }
-    {
-        self.settled = match &self.bytes {
-            Some(content) => Some(content.to_vec(alloc)?),
-            None => None,
-        };
-        self.steps.clear();
-        Ok(())
-    }
-
-    pub(super) fn remove(&mut self, fails: bool) -> Result<(), Failed>
-        ensures done { OnOk result (contents self.new.bytes ≡ None) }
-        ensures steps { FileSteps Removed self.old self.new }
-        ensures reaches { OnOk result (Reaches Removed self.old self.new) }
-        ensures planned { IsTrue fails → IsErr result }
-    {
-        if self.steps.push(Step::Remove).is_err() || fails {
-            return Err(Failed);
-        }
-        self.bytes = None;
-        Ok(())
-    }
 }

@@ -1,4 +1,4 @@
-// Changes of file on a volume that fails at each of its calls in turn.
+//! Changes of file on a volume that fails at each of its calls in turn.
 ghost use Rattle.std.specs.Prelude.{◌<◌, IfOk};
 
 use super::steps::{ORIGIN, Reached, add_inserts, expect_inserts, force_all, forced_from};

@@ -1,4 +1,4 @@
-// Where one file of the log ends, and files that no log names.
+//! Where one file of the log ends, and files that no log names.
 ghost use Rattle.std.specs.Prelude.{◌<◌};
 
 use super::steps::{

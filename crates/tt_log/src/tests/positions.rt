@@ -1,4 +1,4 @@
-// Positions from which a log is opened, and files that are damaged.
+//! Positions from which a log is opened, and files that are damaged.
 use super::steps::{forced_from, write_file};
 use crate::{Log, LogRefusal};
 use std::alloc::Global;

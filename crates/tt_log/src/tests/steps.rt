@@ -1,7 +1,8 @@
-// What the tests share: inserts with their places, and all that is forced.
+//! What the tests share: inserts with their places, and all that is forced.
 ghost use Rattle.std.specs.Prelude.{◌≡◌, ◌<◌, ◌≤◌, OnOk, IfOk, false};
-ghost use Rattle.tt_record.specs.Entries.{IsEntry};
-ghost use Rattle.tt_log.specs.Logs.{IsOpen};
+ghost use Rattle.tt_record.specs.Entry.{IsEntry};
+ghost use Rattle.tt_log.specs.Calls.{IsOpenOn};
+ghost use Rattle.tt_log.specs.Log.{first_file_of};
 ghost use Rattle.tt_log.specs.Walk.{is_switch};
 
 use crate::{Log, LogRefusal};
@@ -65,9 +66,9 @@ pub(super) fn add<V: Volume>(
 ) -> Result<Option<Position>, Failed>
     requires entry { IsEntry entry.now }
     requires plain { is_switch entry.now ≡ false }
-    requires open { V.told → IsOpen log.old (V.now volume.old) (V.may volume.old) }
-    ensures open { V.told → OnOk result (IsOpen log.new (V.now volume.new) (V.may volume.new)) }
-    ensures first { OnOk result (log.new.first ≡ log.old.first) }
+    requires open { IsOpenOn V.Volume log.old volume.old }
+    ensures open { OnOk result (IsOpenOn V.Volume log.new volume.new) }
+    ensures first { OnOk result (first_file_of log.new ≡ first_file_of log.old) }
 {
     if !log.has_place(entry) {
         return Ok(None);
@@ -86,9 +87,9 @@ pub(super) fn add_inserts<V: Volume>(
     until: u32,
 ) -> Result<(), LogRefusal>
     requires until { until < 2097152 }
-    requires open { V.told → IsOpen log.old (V.now volume.old) (V.may volume.old) }
-    ensures open { V.told → OnOk result (IsOpen log.new (V.now volume.new) (V.may volume.new)) }
-    ensures first { OnOk result (log.new.first ≡ log.old.first) }
+    requires open { IsOpenOn V.Volume log.old volume.old }
+    ensures open { OnOk result (IsOpenOn V.Volume log.new volume.new) }
+    ensures first { OnOk result (first_file_of log.new ≡ first_file_of log.old) }
 {
     'inserts: for number in reached.handed..until {
         let insert = insert_of(rt, alloc, &ROW, number)?;
@@ -110,9 +111,9 @@ pub(super) fn force_all<V: Volume>(
     volume: &mut V,
     reached: &mut Reached,
 ) -> Result<(), Failed>
-    requires open { V.told → IsOpen log.old (V.now volume.old) (V.may volume.old) }
-    ensures open { V.told → OnOk result (IsOpen log.new (V.now volume.new) (V.may volume.new)) }
-    ensures first { OnOk result (log.new.first ≡ log.old.first) }
+    requires open { IsOpenOn V.Volume log.old volume.old }
+    ensures open { OnOk result (IsOpenOn V.Volume log.new volume.new) }
+    ensures first { OnOk result (first_file_of log.new ≡ first_file_of log.old) }
     ensures still { reached.new.handed ≡ reached.old.handed }
 {
     log.force(volume)?;
@@ -127,8 +128,8 @@ pub(super) fn forced_from<V: Volume>(
     volume: &mut V,
     from: Position,
 ) -> Result<Vec<(Position, Entry)>, LogRefusal>
-    requires open { V.told → IsOpen log.now (V.now volume.old) (V.may volume.old) }
-    requires low { log.now.first ≤ from.file }
+    requires open { IsOpenOn V.Volume log.now volume.old }
+    requires low { first_file_of log.now ≤ from.file }
 {
     let mut found = Vec::new(alloc);
     let mut scan = log.scan(from);

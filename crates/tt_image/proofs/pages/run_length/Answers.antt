@@ -1,5 +1,5 @@
 use Rattle.std.proofs.Common.{◌∙◌, sym, subst, take, drop, arith}
-use Rattle.tt_image.specs.Writing.{AreFrom}
+use Rattle.tt_image.specs.Pages.{AreFrom}
 use Rattle.tt_image.proofs.RunLemmas.{run_more, run_of_one}
 use Rattle.tt_image.proofs.pages.run_length.Goals as goal
 

@@ -1,5 +1,5 @@
 use Rattle.std.proofs.Common.{take, drop}
-use Rattle.tt_image.specs.Writing.{AreFrom}
+use Rattle.tt_image.specs.Pages.{AreFrom}
 use Rattle.tt_image.proofs.pages.run_length.Given as goal
 
 abbrev pub invariant-loop-count : goal.invariant-loop-count

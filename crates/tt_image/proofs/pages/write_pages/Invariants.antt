@@ -1,8 +1,7 @@
 use Rattle.std.proofs.Common.{◌≡◌, ◌≤◌, ◌-◌, take, drop}
-use Rattle.tt_disk.specs.Causes.{Stays}
-use Rattle.tt_disk.specs.Volume.{size_of}
-use Rattle.tt_disk.specs.Laws.{OnlyAt}
-use Rattle.tt_image.specs.Writing.{BeginWithin, with_pages}
+use Rattle.tt_disk.specs.Faults.{Stays}
+use Rattle.tt_disk.specs.Volume.{size_of, OnlyAt}
+use Rattle.tt_image.specs.Pages.{BeginWithin, with_pages}
 use Rattle.tt_image.specs.Crash.{LeavesShut}
 use Rattle.tt_image.proofs.pages.write_pages.Given as goal
 

@@ -2,7 +2,7 @@ use Rattle.std.proofs.Common.{◌≡◌, ◌∙◌, ℕ, List, take, drop, slice
 use Rattle.std.proofs.lemmas.Result.{on_ok_weaker}
 use Rattle.tt_disk.specs.Volume.{written}
 use Rattle.tt_cells.specs.Copies.{pages_of}
-use Rattle.tt_image.specs.Image.{page_start}
+use Rattle.tt_image.specs.Head.{page_start}
 use Rattle.tt_image.proofs.WriteLemmas.{still_shut}
 use Rattle.tt_image.proofs.RunLemmas.{run_of_whole, run_written}
 use Rattle.tt_image.proofs.pages.write_run.Goals as goal

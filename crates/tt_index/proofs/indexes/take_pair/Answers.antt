@@ -3,8 +3,8 @@ use Rattle.std.specs.BTreeMap.{is_at}
 use Rattle.std.specs.Ordering.{nat_cmp}
 use Rattle.std.proofs.lemmas.Cmp.{nat_cmp_total}
 use Rattle.std.proofs.lemmas.Bool.{OnTrue_from, OnFalse_from, both_ways}
-use Rattle.tt_value.specs.Orders.{row_cmp}
-use Rattle.tt_index.specs.Entries.{without, changed}
+use Rattle.tt_value.specs.Order.{row_cmp}
+use Rattle.tt_index.specs.Rows.{without, changed}
 use Rattle.tt_index.specs.Indexes.{without_place}
 use Rattle.tt_index.proofs.Changes.{changed_there, changed_missing, without_written}
 use Rattle.tt_index.proofs.indexes.take_pair.Goals as goal

@@ -1,7 +1,7 @@
 use Rattle.std.proofs.Common.{ap, sym, ◌∙◌, [], unwrap_or}
 use Rattle.std.proofs.lemmas.Result.{on_ok_weaker}
 use Rattle.tt_index.specs.Indexes.{with_place}
-use Rattle.tt_index.specs.Whole.{some_places}
+use Rattle.tt_index.specs.Nulls.{some_places}
 use Rattle.tt_index.proofs.PlaceLists.{with_place_some}
 use Rattle.tt_index.proofs.Wholes.{some_of}
 use Rattle.tt_index.proofs.nulls.add_null.Goals as goal

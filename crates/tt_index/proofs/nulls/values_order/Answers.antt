@@ -1,6 +1,6 @@
 use Rattle.std.proofs.Common.{rules, ◌≡◌, ◌<◌, ◌∷◌, [], length, ap, sym, ◌∙◌}
 use Rattle.std.specs.Cmp.Lexicographic.{slice_cmp}
-use Rattle.tt_value.specs.Orders.{value_cmp}
+use Rattle.tt_value.specs.Order.{value_cmp}
 use Rattle.tt_value.specs.declared.value.Value.TheVariants.{Null}
 use Rattle.tt_index.proofs.Wholes.{null_long}
 use Rattle.tt_index.proofs.nulls.values_order.Goals as goal

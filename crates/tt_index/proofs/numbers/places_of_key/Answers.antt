@@ -3,8 +3,10 @@ use Rattle.std.specs.Map.{lookup}
 use Rattle.std.specs.BTreeMap.{is_at}
 use Rattle.std.specs.Ordering.{int_cmp}
 use Rattle.std.specs.Option.{option_copied}
-use Rattle.tt_value.specs.Orders.{row_cmp}
-use Rattle.tt_index.specs.Whole.{whole_of, is_null_row, with_nulls}
+use Rattle.tt_value.specs.Order.{row_cmp}
+use Rattle.tt_index.specs.Nulls.{is_null_row}
+use Rattle.tt_index.specs.Numbers.{with_nulls}
+use Rattle.tt_index.specs.Whole.{whole_of}
 use Rattle.tt_index.proofs.Wholes.{row_is, row_is_null, look_whole, look_null, look_apart}
 use Rattle.tt_index.proofs.numbers.places_of_key.Goals as goal
 

@@ -3,8 +3,9 @@ use Rattle.std.specs.List.Sorted.{IsStrictlySortedBy}
 use Rattle.std.specs.Map.{keys_of}
 use Rattle.std.specs.BTreeMap.{insert_entry}
 use Rattle.std.specs.Ordering.{int_cmp}
-use Rattle.tt_value.specs.Orders.{row_cmp}
-use Rattle.tt_index.specs.Whole.{whole_row, as_rows}
+use Rattle.tt_value.specs.Order.{row_cmp}
+use Rattle.tt_index.specs.Numbers.{as_rows}
+use Rattle.tt_index.specs.Whole.{whole_row}
 use Rattle.tt_index.proofs.Wholes.{put_next, behind_none}
 use Rattle.tt_index.proofs.numbers.rows_of.Goals as goal
 

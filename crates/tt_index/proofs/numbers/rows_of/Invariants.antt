@@ -1,5 +1,5 @@
 use Rattle.std.proofs.Common.{◌≡◌, ◌++◌}
-use Rattle.tt_index.specs.Whole.{as_rows}
+use Rattle.tt_index.specs.Numbers.{as_rows}
 use Rattle.tt_index.proofs.numbers.rows_of.Given as goal
 
 abbrev pub invariant-keys : goal.invariant-keys

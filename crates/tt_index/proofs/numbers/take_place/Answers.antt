@@ -3,7 +3,7 @@ use Rattle.std.specs.BTreeMap.{is_at}
 use Rattle.std.specs.Ordering.{int_cmp}
 use Rattle.std.proofs.lemmas.Cmp.{int_cmp_total}
 use Rattle.std.proofs.lemmas.Bool.{OnTrue_from, OnFalse_from, OnFalse_at, both_ways}
-use Rattle.tt_index.specs.Entries.{without}
+use Rattle.tt_index.specs.Rows.{without}
 use Rattle.tt_index.specs.Indexes.{without_place}
 use Rattle.tt_index.proofs.Changes.{changed_there, changed_missing, without_written}
 use Rattle.tt_index.proofs.numbers.take_place.Goals as goal

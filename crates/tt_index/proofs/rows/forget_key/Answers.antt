@@ -1,7 +1,7 @@
 use Rattle.std.proofs.Common.{sym, ap, ◌∙◌}
 use Rattle.std.specs.Map.{lookup}
 use Rattle.std.specs.BTreeMap.{is_at}
-use Rattle.tt_value.specs.Orders.{row_cmp}
+use Rattle.tt_value.specs.Order.{row_cmp}
 use Rattle.tt_index.proofs.Changes.{removed}
 use Rattle.tt_index.proofs.rows.forget_key.Goals as goal
 

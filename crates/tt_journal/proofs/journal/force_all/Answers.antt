@@ -3,6 +3,7 @@ use Rattle.tt_journal.specs.FileLaws.{one_changes}
 use Rattle.tt_journal.specs.WriteLaws.{all_follows}
 use Rattle.tt_journal.proofs.TrailLemmas.{changed_from, quiet_waits, all_trail, left_prefix, prefix_all}
 use Rattle.tt_journal.proofs.journal.force_all.Goals as goal
+use Rattle.tt_log.specs.Log.{current_file_of}
 
 pub returns-in-Ok-clause-performed : goal.returns-in-Ok-clause-performed
 returns-in-Ok-clause-performed g c told =
@@ -14,7 +15,7 @@ returns-in-Ok-clause-performed g c told =
         kept = λ k. c.in-Ok.ensures.kept told k;
         onward = (all_follows s h.bounds.1).onward;
         quiet = λ q. c.force.ensures.quiet (quiet_waits log _ _ s (c.requires.open told) h q);
-        others = changed_from log _ s _ _ _ _ h (one_changes log.number _ _ _ _ log.numbers (c.force.ensures.others told));
+        others = changed_from log _ s _ _ _ _ h (one_changes (current_file_of log) _ _ _ _ log.numbers (c.force.ensures.others told));
       };
       broken = λ s h. tt;
     }
@@ -32,6 +33,6 @@ returns-in-Err-clause-performed g c told =
             let none = quiet_waits log _ _ s (c.requires.open told) h q in
             let some = c.in-Err.ensures.fails in
             omega (arith, none, some);
-        others = changed_from log _ s _ _ _ _ h (one_changes log.number _ _ _ _ log.numbers (c.force.ensures.others told));
+        others = changed_from log _ s _ _ _ _ h (one_changes (current_file_of log) _ _ _ _ log.numbers (c.force.ensures.others told));
       };
     }

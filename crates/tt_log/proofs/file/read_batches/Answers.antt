@@ -1,14 +1,14 @@
 use Rattle.std.proofs.Common.{◌∙◌, subst, arith}
 use Rattle.tt_disk.specs.declared.volume.Name.TheVariants.{Log as LogFile}
 use Rattle.tt_disk.specs.Laws.{count_stays, keeps_then_keeps}
-use Rattle.tt_log.specs.Takes.{TakesUpTo, TakesOn, at_first}
+use Rattle.tt_log.specs.Visitor.{VisitsUpTo, VisitsBatch, at_first}
 use Rattle.tt_log.proofs.Reaching.{gone_on, gone_ends, end_closes}
-use Rattle.tt_log.proofs.Taking.{up_to_more, up_to_end, went_on, went_to_end}
+use Rattle.tt_log.proofs.Visiting.{up_to_more, up_to_end, went_on, went_to_end}
 use Rattle.tt_log.proofs.file.read_batches.Goals as goal
 
 pub returns-in-Ok-Ends-clause-exact : goal.returns-in-Ok-Ends-clause-exact
 returns-in-Ok-Ends-clause-exact g c told =
-    gone_ends c.args.wanted c.args.number _ _ c.go_on.result c.in-Ok-Ends.field-0 c.in-Ok-Ends.end (c.go_on.ensures.exact told) c.in-Ok-Ends.is c.in-Ok-Ends.field-0-is ((c.batches.invariant.keeps told).reads (LogFile c.args.number))
+    gone_ends c.args.wanted c.args.number _ _ c.read_next_batch.result c.in-Ok-Ends.field-0 c.in-Ok-Ends.end (c.read_next_batch.ensures.exact told) c.in-Ok-Ends.is c.in-Ok-Ends.field-0-is ((c.batches.invariant.keeps told).reads (LogFile c.args.number))
 
 pub returns-in-Ok-Ends-clause-closed : goal.returns-in-Ok-Ends-clause-closed
 returns-in-Ok-Ends-clause-closed g c told =
@@ -17,28 +17,28 @@ returns-in-Ok-Ends-clause-closed g c told =
 pub batches-preserved : goal.batches-preserved
 batches-preserved g c =
     let within = rw c.in-Ok-On.field-0-is at c.in-Ok-On.ensures.within in
-    let old = g.T.Taker.took c.args.taker.now in
-    let mid = g.T.Taker.took c.batches.taker in
-    let new = g.T.Taker.took c.go_on.new.taker in
+    let old = g.T.EntryVisitor.visited c.args.visitor.now in
+    let mid = g.T.EntryVisitor.visited c.batches.visitor in
+    let new = g.T.EntryVisitor.visited c.read_next_batch.new.visitor in
     record {
       some = omega (arith, within.0);
       inside = within.1;
       room = within.2;
       later = omega (arith, c.in-Ok-On.ensures.cause.later, c.batches.invariant.later);
       stays = λ exact. count_stays _ _ _ _ _ c.in-Ok-On.ensures.cause exact ∙ c.batches.invariant.stays exact;
-      keeps = λ told. keeps_then_keeps _ _ _ _ _ _ (c.batches.invariant.keeps told) (c.go_on.ensures.keeps told);
-      reached = λ told. gone_on c.args.wanted c.args.number _ _ c.go_on.result c.in-Ok-On.field-0 c.in-Ok-On.next (c.go_on.ensures.exact told) c.in-Ok-On.is c.in-Ok-On.field-0-is ((c.batches.invariant.keeps told).reads (LogFile c.args.number));
+      keeps = λ told. keeps_then_keeps _ _ _ _ _ _ (c.batches.invariant.keeps told) (c.read_next_batch.ensures.keeps told);
+      reached = λ told. gone_on c.args.wanted c.args.number _ _ c.read_next_batch.result c.in-Ok-On.field-0 c.in-Ok-On.next (c.read_next_batch.ensures.exact told) c.in-Ok-On.is c.in-Ok-On.field-0-is ((c.batches.invariant.keeps told).reads (LogFile c.args.number));
       given = λ told.
           up_to_more c.args.number old mid new at_first c.batches.at c.in-Ok-On.next (g.V.Volume.now c.args.volume.now (LogFile c.args.number)) (c.batches.invariant.given told)
-          (subst (λ o. TakesUpTo c.args.number mid new c.batches.at c.in-Ok-On.next o) ((c.batches.invariant.keeps told).reads (LogFile c.args.number))
-          (went_on c.args.number mid new c.batches.at c.in-Ok-On.next _ c.go_on.result c.in-Ok-On.field-0 (c.go_on.ensures.given told) c.in-Ok-On.is c.in-Ok-On.field-0-is));
+          (subst (λ o. VisitsUpTo c.args.number mid new c.batches.at c.in-Ok-On.next o) ((c.batches.invariant.keeps told).reads (LogFile c.args.number))
+          (went_on c.args.number mid new c.batches.at c.in-Ok-On.next _ c.read_next_batch.result c.in-Ok-On.field-0 (c.read_next_batch.ensures.given told) c.in-Ok-On.is c.in-Ok-On.field-0-is));
     }
 
 pub returns-in-Ok-Ends-clause-given : goal.returns-in-Ok-Ends-clause-given
 returns-in-Ok-Ends-clause-given g c told =
-    let old = g.T.Taker.took c.args.taker.now in
-    let mid = g.T.Taker.took c.batches.taker in
-    let new = g.T.Taker.took c.go_on.new.taker in
+    let old = g.T.EntryVisitor.visited c.args.visitor.now in
+    let mid = g.T.EntryVisitor.visited c.batches.visitor in
+    let new = g.T.EntryVisitor.visited c.read_next_batch.new.visitor in
     up_to_end c.args.number old mid new c.batches.at c.in-Ok-Ends.end (g.V.Volume.now c.args.volume.now (LogFile c.args.number)) (c.batches.invariant.given told)
-    (went_to_end c.args.number mid new c.batches.at c.in-Ok-Ends.end _ c.go_on.result c.in-Ok-Ends.field-0
-    (subst (λ o. TakesOn c.args.number mid new c.batches.at o c.go_on.result) ((c.batches.invariant.keeps told).reads (LogFile c.args.number)) (c.go_on.ensures.given told)) c.in-Ok-Ends.is c.in-Ok-Ends.field-0-is)
+    (went_to_end c.args.number mid new c.batches.at c.in-Ok-Ends.end _ c.read_next_batch.result c.in-Ok-Ends.field-0
+    (subst (λ o. VisitsBatch c.args.number mid new c.batches.at o c.read_next_batch.result) ((c.batches.invariant.keeps told).reads (LogFile c.args.number)) (c.read_next_batch.ensures.given told)) c.in-Ok-Ends.is c.in-Ok-Ends.field-0-is)

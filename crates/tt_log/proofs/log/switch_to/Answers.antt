@@ -1,8 +1,8 @@
 use Rattle.std.proofs.Common.{◌≡◌, ◌<◌, ◌^◌, refl, ◌∷◌, ◌++◌, [], ℕ, List, length, drop, sym, ap, ◌∙◌, subst, arith}
 use Rattle.std.proofs.lemmas.List.{append-nil, drop_all}
-use Rattle.tt_value.specs.WordLaws.{length-big_endian}
+use Rattle.tt_value.specs.BigEndianLaws.{length-big_endian}
 use Rattle.tt_record.specs.declared.entry.Entry.TheVariants.{Switch}
-use Rattle.tt_record.specs.Entries.{entry_bytes, length_of, IsBody}
+use Rattle.tt_record.specs.Entry.{entry_bytes, length_of, IsBody}
 use Rattle.tt_record.specs.BodyLaws.{entry_body}
 use Rattle.tt_log.proofs.log.switch_to.Goals as goal
 

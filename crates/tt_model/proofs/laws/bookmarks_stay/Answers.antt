@@ -1,5 +1,5 @@
 use Rattle.tt_model.proofs.laws.bookmarks_stay.Goals as goal
-use Rattle.tt_model.proofs.BookmarkLines
+use Rattle.tt_model.proofs.Theorems
 
 pub returns : goal.returns
-returns c = BookmarkLines.bookmarks_stay
+returns c = Theorems.bookmarks_stay

@@ -1,10 +1,5 @@
 use Rattle.tt_model.proofs.laws.checkpoints_open.Goals as goal
-use Rattle.tt_model.proofs.LowLemmas.{split, before-end, low-ends, current-unchanged}
+use Rattle.tt_model.proofs.Theorems
 
 pub returns : goal.returns
-returns c = record {
-  parts = split;
-  whole = before-end;
-  ended_since = low-ends;
-  copied = current-unchanged;
-}
+returns c = Theorems.checkpoints_open

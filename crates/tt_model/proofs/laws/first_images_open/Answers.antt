@@ -1,5 +1,5 @@
 use Rattle.tt_model.proofs.laws.first_images_open.Goals as goal
-use Rattle.tt_model.proofs.OpeningLemmas
+use Rattle.tt_model.proofs.Theorems
 
 pub returns : goal.returns
-returns c = OpeningLemmas.first_images_open
+returns c = Theorems.first_images_open

@@ -1,5 +1,5 @@
 use Rattle.tt_model.proofs.laws.held_once_in_runs.Goals as goal
-use Rattle.tt_model.proofs.HeldInRuns
+use Rattle.tt_model.proofs.Theorems
 
 pub returns : goal.returns
-returns c = HeldInRuns.held_once_in_runs
+returns c = Theorems.held_once_in_runs

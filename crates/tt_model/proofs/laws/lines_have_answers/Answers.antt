@@ -1,8 +1,5 @@
 use Rattle.tt_model.proofs.laws.lines_have_answers.Goals as goal
-use Rattle.tt_model.proofs.StepLemmas.{stepped-Step, step-without_memory}
+use Rattle.tt_model.proofs.Theorems
 
 pub returns : goal.returns
-returns c = record {
-  table = stepped-Step;
-  alone = step-without_memory;
-}
+returns c = Theorems.lines_have_answers

@@ -1,5 +1,5 @@
 use Rattle.tt_model.proofs.laws.log_files_are_kept.Goals as goal
-use Rattle.tt_model.proofs.FileLemmas.{log_files_kept}
+use Rattle.tt_model.proofs.Theorems
 
 pub returns : goal.returns
-returns c = log_files_kept
+returns c = Theorems.log_files_are_kept

@@ -1,5 +1,5 @@
 use Rattle.tt_model.proofs.laws.opening_finds_committed.Goals as goal
-use Rattle.tt_model.proofs.DeadLemmas.{standing-grown}
+use Rattle.tt_model.proofs.Theorems
 
 pub returns : goal.returns
-returns c = standing-grown
+returns c = Theorems.opening_finds_committed

@@ -1,5 +1,5 @@
 use Rattle.tt_model.proofs.laws.reversed_may_abort.Goals as goal
-use Rattle.tt_model.proofs.RollbackLemmas.{rolled_back-MayAbort}
+use Rattle.tt_model.proofs.Theorems
 
 pub returns : goal.returns
-returns c = rolled_back-MayAbort
+returns c = Theorems.reversed_may_abort

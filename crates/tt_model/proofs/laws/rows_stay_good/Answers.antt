@@ -1,5 +1,5 @@
 use Rattle.tt_model.proofs.laws.rows_stay_good.Goals as goal
-use Rattle.tt_model.proofs.RowsStayGood
+use Rattle.tt_model.proofs.Theorems
 
 pub returns : goal.returns
-returns c = RowsStayGood.rows_stay_good
+returns c = Theorems.rows_stay_good

@@ -1,11 +1,5 @@
 use Rattle.tt_model.proofs.laws.seen_rows_may_change.Goals as goal
-use Rattle.tt_model.proofs.FirstBeforeLemmas.{new_row-MayChange, seen_row-MayChange}
-use Rattle.tt_model.proofs.ConflictLemmas.{seen_row-mine, seen_row-none}
+use Rattle.tt_model.proofs.Theorems
 
 pub returns : goal.returns
-returns c = record {
-  new_row = new_row-MayChange;
-  seen_row = seen_row-MayChange;
-  held = seen_row-mine;
-  free = seen_row-none;
-}
+returns c = Theorems.seen_rows_may_change

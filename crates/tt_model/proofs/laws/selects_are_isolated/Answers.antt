@@ -1,5 +1,5 @@
 use Rattle.tt_model.proofs.laws.selects_are_isolated.Goals as goal
-use Rattle.tt_model.proofs.IsolationLemmas
+use Rattle.tt_model.proofs.Theorems
 
 pub returns : goal.returns
-returns c = IsolationLemmas.selects_are_isolated
+returns c = Theorems.selects_are_isolated

@@ -1,5 +1,5 @@
 use Rattle.tt_model.proofs.laws.steps_go_on.Goals as goal
-use Rattle.tt_model.proofs.EndToEndLemmas
+use Rattle.tt_model.proofs.Theorems
 
 pub returns : goal.returns
-returns c = EndToEndLemmas.steps_go_on
+returns c = Theorems.steps_go_on

@@ -1,5 +1,5 @@
 use Rattle.tt_model.proofs.laws.users_rows_stay_good.Goals as goal
-use Rattle.tt_model.proofs.RowsStay
+use Rattle.tt_model.proofs.Theorems
 
 pub returns : goal.returns
-returns c = RowsStay.users_rows_stay_good
+returns c = Theorems.users_rows_stay_good

@@ -1,5 +1,5 @@
 use Rattle.tt_model.proofs.laws.works_are_numbered.Goals as goal
-use Rattle.tt_model.proofs.NumberedWorks
+use Rattle.tt_model.proofs.Theorems
 
 pub returns : goal.returns
-returns c = NumberedWorks.works_are_numbered
+returns c = Theorems.works_are_numbered

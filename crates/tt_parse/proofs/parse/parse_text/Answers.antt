@@ -1,6 +1,6 @@
 use Rattle.std.proofs.Common.{ℕ, sym, subst}
 use Rattle.tt_parse.specs.Tokens.{tokens_of}
-use Rattle.tt_parse.specs.Parsing.{IsSession}
+use Rattle.tt_parse.specs.Parse.{IsSession}
 use Rattle.tt_parse.proofs.Whole.{line_says, line_off_only, line_given}
 use Rattle.tt_parse.proofs.Bare.{line_bare}
 use Rattle.tt_parse.proofs.Sessions.{session_is}

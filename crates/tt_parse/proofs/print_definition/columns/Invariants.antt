@@ -1,5 +1,5 @@
 use Rattle.std.proofs.Common.{◌≡◌, length}
-use Rattle.tt_parse.specs.Written.{put_all}
+use Rattle.tt_parse.specs.Printer.{put_all}
 use Rattle.tt_parse.specs.Spelling as spell
 use Rattle.tt_parse.proofs.print_definition.columns.Given as goal
 

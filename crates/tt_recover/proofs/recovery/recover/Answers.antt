@@ -1,10 +1,10 @@
 use Rattle.std.proofs.Common.{◌≡◌, ◌⊎◌, inl, inr, ◌∙◌, ◌+◌, [], Result, Err, ap, sym, arith}
-use Rattle.tt_record.specs.Places.{position}
+use Rattle.tt_record.specs.Place.{position}
 use Rattle.tt_log.specs.declared.refusal.LogRefusal.{LogRefusal}
 use Rattle.tt_log.specs.declared.refusal.LogRefusal.TheVariants.{Failed, NoMemory}
-use Rattle.tt_log.specs.Logs.{entries_in, forced_of}
-use Rattle.tt_log.specs.Starts.{started}
-use Rattle.tt_log.specs.Walk.{Files, Found as Read, log_of}
+use Rattle.tt_log.specs.Log.{entries_in, forced_of, first_file_of, current_file_of}
+use Rattle.tt_log.specs.Opening.{started}
+use Rattle.tt_log.specs.Walk.{Files, LogContents as Read, log_of}
 use Rattle.tt_model.specs.Committed.{no_cells}
 use Rattle.tt_model.specs.Live.{next_number}
 use Rattle.tt_model.specs.Standing.{standing}
@@ -25,16 +25,16 @@ returns-in-Err-clause-refused g c told = refused_by (g.V.Volume.now c.args.volum
 pub returns-clause-found : goal.returns-clause-found
 returns-clause-found g c told =
     let old = g.V.Volume.now c.args.volume.now in
-    let now = g.V.Volume.now c.start_giving.new.volume in
+    let now = g.V.Volume.now c.start_with.new.volume in
     let log = c.in-Ok.log in
     let open_log = c.in-Ok.ensures.open told in
-    let found : log_of log.first now ≡ log_of 0 old = c.in-Ok.ensures.found told ∙ begun_log old in
+    let found : log_of (first_file_of log) now ≡ log_of 0 old = c.in-Ok.ensures.found told ∙ begun_log old in
     let read = c.in-Ok.ensures.taken told [] c.new-progress.ensures in
     let all : newest_first (entries_in (log_of 0 old)) ≡ newest_first (forced_of log now) = ap (λ (q : Result Read LogRefusal). newest_first (entries_in q)) (sym found) in
     let r : Recovered = record { log = log; rows = c.in-Ok-finish.rows; next_transaction = c.next_transaction-next_transaction.result } in
-    let none : log.base + log.used ≡ log.base = omega (arith, c.in-Ok.ensures.waiting) in
+    let none : log.forced_bytes + log.buffered ≡ log.forced_bytes = omega (arith, c.in-Ok.ensures.waiting) in
     recovers r old now open_log.whole found
     (λ q. c.in-Ok-finish.ensures.found (newest_first (entries_in (log_of 0 old))) read q ∙ ap (λ (t : Trail). standing no_cells t q) all)
     (c.next_transaction-next_transaction.ensures.next ∙ read.next ∙ ap (next_number 1) all)
-    (ap (position log.number) none ∙ sym open_log.end)
+    (ap (position (current_file_of log)) none ∙ sym open_log.end)
     c.in-Ok.ensures.empty

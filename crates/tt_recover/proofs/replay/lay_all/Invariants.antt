@@ -3,7 +3,7 @@ use Rattle.std.specs.BTreeMap.{get}
 use Rattle.std.specs.BTreeSet.{contains}
 use Rattle.std.specs.Ordering.{nat_cmp}
 use Rattle.std.specs.Vec.Iter.{into_iter_items}
-use Rattle.tt_recover.specs.Replays.{laid}
+use Rattle.tt_recover.specs.Replay.{laid}
 use Rattle.tt_recover.proofs.replay.lay_all.Given as goal
 
 abbrev pub invariant-loop-change : goal.invariant-loop-change

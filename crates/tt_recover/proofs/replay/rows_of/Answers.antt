@@ -3,12 +3,12 @@ use Rattle.std.specs.List.Sorted.{IsStrictlySortedBy}
 use Rattle.std.specs.Map.{keys_of}
 use Rattle.std.proofs.lemmas.Map.Iter.{rest_all}
 use Rattle.tt_value.specs.declared.value.Cell.{Cell}
-use Rattle.tt_recover.specs.declared.replay.FoundRow.{FoundRow}
-use Rattle.tt_recover.specs.Replays.{AreInOrder, cell_shown, rows_in}
+use Rattle.tt_recover.specs.declared.replay.RecoveredRow.{RecoveredRow}
+use Rattle.tt_recover.specs.Replay.{AreInOrder, cell_shown, rows_in}
 use Rattle.tt_recover.proofs.ReplayLemmas.{shown_rows, ordered_rows}
 use Rattle.tt_recover.proofs.replay.rows_of.Goals as goal
 
-all_rows : (rows : List FoundRow) (left all : List (ℕ × Cell)) → left ≡ [] → rows ++ rows_in left ≡ rows_in all → rows ≡ rows_in all
+all_rows : (rows : List RecoveredRow) (left all : List (ℕ × Cell)) → left ≡ [] → rows ++ rows_in left ≡ rows_in all → rows ≡ rows_in all
 all_rows rows left all none is = sym (append-nil rows) ∙ ap (λ es. rows ++ rows_in es) (sym none) ∙ is
 
 pub returns-clause-shown : goal.returns-clause-shown

@@ -1,5 +1,5 @@
 use Rattle.std.proofs.Common.{◌≡◌, ◌++◌, vec_items}
-use Rattle.tt_recover.specs.Replays.{rows_in}
+use Rattle.tt_recover.specs.Replay.{rows_in}
 use Rattle.tt_recover.proofs.replay.rows_of.Given as goal
 
 abbrev pub invariant-loop-place : goal.invariant-loop-place

@@ -1,5 +1,5 @@
 use Rattle.std.proofs.Common.{length, ◌-◌, ◌≡◌, ◌≤◌, ◌++◌, take, List, ℕ, Some}
-use Rattle.tt_disk.specs.Causes.{Stays}
+use Rattle.tt_disk.specs.Faults.{Stays}
 use Rattle.tt_run.proofs.attributes.fill.Given as goal
 
 abbrev pub invariant-pieces : goal.invariant-pieces

@@ -1,20 +1,20 @@
-use Rattle.std.proofs.Common.{◌∙◌, refl, arith}
-use Rattle.tt_run.proofs.RunLemmas.{begins_run, count_goes_on}
+use Rattle.std.proofs.Common.{Some, ap}
+use Rattle.tt_run.specs.declared.status.Status.{Status}
+use Rattle.tt_engine.specs.RepresentsLaws.{forced_now, forced_settled}
+use Rattle.tt_run.proofs.FaultLemmas.{none_failed, not_called, rose_behind, rose_if}
+use Rattle.tt_run.proofs.RunLemmas.{begins_run}
 use Rattle.tt_run.proofs.top_call.do_lines.Goals as goal
 
 pub lines-init : goal.lines-init
 lines-init g c = record {
   ready = c.requires.open;
-  scripts_later = omega arith;
-  sinks_later = omega arith;
-  volumes_later = omega arith;
-  scripts = λ exact. refl;
-  sinks = λ exact. refl;
-  volumes = λ exact. refl;
+  scripts = not_called _ ⊥ _ (λ none. none);
+  sinks = not_called _ ⊥ _ (λ none. none);
+  volumes = not_called _ ⊥ _ (λ none. none);
   running = λ told start stands. (
     start,
-    begins_run g.L.Volume.now g.L.Volume.may c.args.engine (record { state = start; logs = c.args.logs.now }) (g.S.Source.left c.args.script.now) (g.K.Sink.given c.args.sink.now) c.new-reader.result c.new-reader.ensures stands
-        (record { files = stands.log.files; opens = c.opens_after_crash.ensures.forced told start stands; settled_again = c.opens_after_crash.ensures.settled told start stands }),
+    begins_run g.L.Volume c.args.engine (record { state = start; logs = c.args.logs.now }) (g.S.Source.left c.args.script.now) (g.K.Sink.given c.args.sink.now) c.new-reader.result c.new-reader.ensures stands
+        (record { files = stands.log.files; opens = forced_now c.args.engine (g.L.Volume.now c.args.logs.now) (g.L.Volume.may c.args.logs.now) start stands (c.requires.open told); settled_again = forced_settled c.args.engine (g.L.Volume.now c.args.logs.now) (g.L.Volume.may c.args.logs.now) start stands (c.requires.open told) }),
   );
 }
 
@@ -26,13 +26,19 @@ returns-in-Some-clause-ran g c = λ told start stands.
 pub lines-preserved : goal.lines-preserved
 lines-preserved g c = record {
   ready = c.in-None.ensures.open;
-  scripts_later = omega (arith, c.do_line.ensures.later.0, c.lines.invariant.scripts_later);
-  sinks_later = omega (arith, c.do_line.ensures.later.1, c.lines.invariant.sinks_later);
-  volumes_later = omega (arith, c.do_line.ensures.later.2, c.lines.invariant.volumes_later);
-  scripts = λ exact. count_goes_on _ _ _ _ c.in-None.ensures.script_stays exact ∙ c.lines.invariant.scripts exact;
-  sinks = λ exact. count_goes_on _ _ _ _ c.in-None.ensures.sink_stays exact ∙ c.lines.invariant.sinks exact;
-  volumes = λ exact. count_goes_on _ _ _ _ c.in-None.ensures.logs_stay exact ∙ c.lines.invariant.volumes exact;
+  scripts = rose_behind _ ⊥ _ _ _ c.lines.invariant.scripts (none_failed _ _ _ _ (λ is. cc) c.in-None.ensures.script_fault);
+  sinks = rose_behind _ ⊥ _ _ _ c.lines.invariant.sinks (none_failed _ _ _ _ (λ is. cc) c.in-None.ensures.sink_fault);
+  volumes = rose_behind _ ⊥ _ _ _ c.lines.invariant.volumes (none_failed _ _ _ _ (λ is. cc) c.in-None.ensures.logs_fault);
   running = λ told start stands.
       let (s, running) = c.lines.invariant.running told start stands in
       c.in-None.ensures.step told c.args.engine (record { state = start; logs = c.args.logs.now }) (g.S.Source.left c.args.script.now) (g.K.Sink.given c.args.sink.now) s running;
 }
+
+pub returns-in-Some-clause-script_fault : goal.returns-in-Some-clause-script_fault
+returns-in-Some-clause-script_fault g c = rose_behind _ _ _ _ _ c.lines.invariant.scripts (rose_if _ _ _ _ _ (λ is. cc) (λ is. ap (λ (s : Status). Some s) is) c.in-Some.ensures.script_fault)
+
+pub returns-in-Some-clause-sink_fault : goal.returns-in-Some-clause-sink_fault
+returns-in-Some-clause-sink_fault g c = rose_behind _ _ _ _ _ c.lines.invariant.sinks (rose_if _ _ _ _ _ (λ is. cc) (λ is. ap (λ (s : Status). Some s) is) c.in-Some.ensures.sink_fault)
+
+pub returns-in-Some-clause-logs_fault : goal.returns-in-Some-clause-logs_fault
+returns-in-Some-clause-logs_fault g c = rose_behind _ _ _ _ _ c.lines.invariant.volumes (rose_if _ _ _ _ _ (λ is. cc) (λ is. ap (λ (s : Status). Some s) is) c.in-Some.ensures.logs_fault)

@@ -1,4 +1,5 @@
-use Rattle.tt_engine.specs.Requests.{script_ended}
+use Rattle.tt_engine.specs.Request.{script_ended}
+use Rattle.tt_engine.specs.RepresentsLaws.{forced_now, forced_settled}
 use Rattle.tt_run.proofs.top_call.end_script.Goals as goal
 
 pub returns-in-Ok-clause-ends : goal.returns-in-Ok-clause-ends
@@ -8,8 +9,8 @@ returns-in-Ok-clause-ends g c = λ told s stands.
       record {
         holds = record {
           files = behind.log.files;
-          opens = c.opens_after_crash.ensures.forced told (script_ended s) behind;
-          settled_again = λ kept. c.opens_after_crash.ensures.settled told (script_ended s) behind (written.kept kept);
+          opens = forced_now c.end.new.self (g.L.Volume.now c.end.new.logs) (g.L.Volume.may c.end.new.logs) (script_ended s) behind ((c.in-Ok.ensures.ends told).ready);
+          settled_again = λ kept. forced_settled c.end.new.self (g.L.Volume.now c.end.new.logs) (g.L.Volume.may c.end.new.logs) (script_ended s) behind ((c.in-Ok.ensures.ends told).ready) (written.kept kept);
         };
         quiet = written.quiet;
       },

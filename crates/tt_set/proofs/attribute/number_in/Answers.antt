@@ -2,7 +2,7 @@ use Rattle.std.proofs.Common.{◌≡◌, Some, None, option_map, option_and_then
 use Rattle.toml.specs.Data.{get_member}
 use Rattle.toml.specs.View.{view, table_view}
 use Rattle.toml.proofs.Views.{table_get}
-use Rattle.tt_set.specs.Attributes.{number_of}
+use Rattle.tt_set.specs.Attribute.{number_of}
 use Rattle.tt_set.proofs.attribute.number_in.Goals as goal
 
 pub returns-in-Some-clause-value : goal.returns-in-Some-clause-value

@@ -1,7 +1,7 @@
 use Rattle.std.proofs.Common.{Ok, inl, arith}
 use Rattle.toml.specs.View.{table_view}
 use Rattle.tt_set.proofs.Said.{one_answer, named_only}
-use Rattle.tt_set.specs.Attributes.{Reads}
+use Rattle.tt_set.specs.Settings.{Reads}
 use Rattle.tt_set.proofs.settings.read_settings.Goals as goal
 
 pub returns-in-Some-clause-only : goal.returns-in-Some-clause-only

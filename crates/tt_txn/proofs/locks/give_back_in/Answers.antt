@@ -2,8 +2,9 @@ use Rattle.std.proofs.Common.{◌≡◌, ◌<◌, ◌∙◌, ℕ, ap, sym, None,
 use Rattle.std.specs.Map.{lookup}
 use Rattle.std.proofs.lemmas.List.{get_or_default}
 use Rattle.std.proofs.lemmas.Map.Made.{lookup_key_passes}
-use Rattle.tt_txn.specs.Names.{same_name}
-use Rattle.tt_txn.specs.Locks.{slot_in, slots_of, names_in}
+use Rattle.tt_txn.specs.Same.{same_name}
+use Rattle.tt_txn.specs.Locks.{names_in}
+use Rattle.tt_txn.specs.Slots.{slot_in, slots_of}
 use Rattle.tt_txn.proofs.Ties.{Slots, session_within, slot_within}
 use Rattle.tt_txn.proofs.Holdings.{IsCut, freed, loosened, none_removed, none_holds, held_is, given_back}
 use Rattle.tt_txn.proofs.locks.give_back_in.Goals as goal

@@ -1,6 +1,6 @@
 use Rattle.std.proofs.Common.{◌∙◌}
 use Rattle.indexmap.proofs.CallerLemmas.{insert_entry-new}
-use Rattle.tt_txn.specs.Names.{same_name}
+use Rattle.tt_txn.specs.Same.{same_name}
 use Rattle.tt_txn.proofs.locks.put_name.Goals as goal
 
 pub returns-clause-ok : goal.returns-clause-ok

@@ -1,7 +1,8 @@
 use Rattle.std.proofs.Common.{◌≡◌, ◌<◌, ◌∙◌, ℕ, ap, sym, refl, Some, length, get_or, set, List, [], subst}
 use Rattle.std.specs.Prelude.{slice_get}
 use Rattle.std.proofs.lemmas.List.{get_or_default}
-use Rattle.tt_txn.specs.Locks.{slots_of, IsTiedBut, Moves}
+use Rattle.tt_txn.specs.Locks.{IsTiedBut, Moves}
+use Rattle.tt_txn.specs.Slots.{slots_of}
 use Rattle.tt_txn.proofs.Ties.{Slots, Entry, IsAnew, owner, session_within, slot_within, put_here, put_elsewhere, tied_anew, names_anew, tied_without, names_without}
 use Rattle.tt_txn.proofs.locks.release.Goals as goal
 

@@ -1,10 +1,10 @@
-use Rattle.std.proofs.Common.{◌≡◌, ◌≢◌, ◌<◌, ℕ, length}
+use Rattle.std.proofs.Common.{◌≡◌, ◌≢◌, ◌<◌, ℕ, length, List}
 use Rattle.std.specs.List.{IsDistinct}
 use Rattle.std.specs.Map.{keys_of}
-use Rattle.tt_txn.specs.Names.{same_name}
-use Rattle.tt_txn.specs.Locks.{names_in, slots_of, IsTied}
+use Rattle.tt_txn.specs.Same.{same_name}
+use Rattle.tt_txn.specs.Locks.{names_in, IsTied}
+use Rattle.tt_txn.specs.Slots.{slots_of}
 use Rattle.tt_txn.proofs.Ties.{Entry, Slots}
-use Rattle.std.proofs.Common.{List}
 use Rattle.tt_txn.proofs.locks.release_all.Given as goal
 
 -- while a session's slots are taken away

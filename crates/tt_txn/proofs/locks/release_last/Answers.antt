@@ -1,6 +1,6 @@
 use Rattle.std.proofs.Common.{◌≡◌, ◌<◌, ◌∙◌, ◌++◌, ◌∷◌, ℕ, ap, Some, None, Option, length, get_or, set, List, [], arith}
 use Rattle.std.proofs.lemmas.List.{get_or_default, length_push}
-use Rattle.tt_txn.specs.Locks.{slot_in, slots_of, slot_at}
+use Rattle.tt_txn.specs.Slots.{slot_in, slots_of, slot_at}
 use Rattle.tt_txn.proofs.Ties.{Slots}
 use Rattle.tt_txn.proofs.Holdings.{popped, popped_at, loosened, same_ties, same_cut, anew_here}
 use Rattle.tt_txn.proofs.locks.release_last.Goals as goal

@@ -1,7 +1,8 @@
 use Rattle.std.proofs.Common.{◌≡◌, ◌<◌, ◌∙◌, ◌++◌, ◌∷◌, ℕ, ap, ap₂, sym, refl, Some, None, length, get_or, set, List, [], subst, nat_eq, cond, inl, inr}
 use Rattle.std.proofs.lemmas.Bool.{cases_eq, eq-eqb, ne_eqb}
 use Rattle.std.proofs.lemmas.List.{get_or_default, set_at, get_or-set_other}
-use Rattle.tt_txn.specs.Locks.{held, slot_in, slots_of, slot_at, named, names_in, IsTied}
+use Rattle.tt_txn.specs.Locks.{held, named, names_in, IsTied}
+use Rattle.tt_txn.specs.Slots.{slot_in, slots_of, slot_at}
 use Rattle.tt_txn.proofs.Ties.{Slots, Entry, same_names}
 use Rattle.tt_txn.proofs.Holdings.{anew_here, popped_other, put_behind, tied_taken, names_taken, same_ties}
 use Rattle.tt_txn.proofs.locks.take_in.Goals as goal

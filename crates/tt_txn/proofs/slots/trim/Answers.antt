@@ -4,7 +4,7 @@ use Rattle.std.specs.Option.{option_copied}
 use Rattle.std.proofs.lemmas.Bool.{cases_lt, cases_eq}
 use Rattle.std.proofs.lemmas.List.{get_or-take, get_or_past, length-take-le}
 use Rattle.std.proofs.lemmas.Option.{get_or_from_slice_get}
-use Rattle.tt_txn.specs.Locks.{slot_in}
+use Rattle.tt_txn.specs.Slots.{slot_in}
 use Rattle.tt_txn.proofs.slots.trim.Goals as goal
 
 -- without an empty slot at the end

@@ -1,5 +1,5 @@
 use Rattle.std.proofs.Common.{◌≡◌, ℕ, vec_len}
-use Rattle.tt_txn.specs.Locks.{slot_in}
+use Rattle.tt_txn.specs.Slots.{slot_in}
 use Rattle.tt_txn.proofs.slots.trim.Given as goal
 
 abbrev pub invariant-loop-slots : goal.invariant-loop-slots

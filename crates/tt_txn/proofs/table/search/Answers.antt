@@ -1,6 +1,6 @@
 use Rattle.std.proofs.Common.{rules}
 use Rattle.std.proofs.lemmas.List.Sorted.{answers_always}
-use Rattle.tt_txn.specs.Txns.{LiveTransaction}
+use Rattle.tt_txn.specs.Live.{LiveTransaction}
 use Rattle.tt_txn.proofs.Searches.{searched}
 use Rattle.tt_txn.proofs.table.search.Goals as goal
 

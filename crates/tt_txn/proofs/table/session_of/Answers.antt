@@ -1,6 +1,6 @@
 use Rattle.std.proofs.Common.{◌∙◌, ap, sym, Some}
 use Rattle.std.specs.Option.{option_map}
-use Rattle.tt_txn.specs.Txns.{LiveTransaction}
+use Rattle.tt_txn.specs.Live.{LiveTransaction}
 use Rattle.tt_txn.proofs.Places.{there}
 use Rattle.tt_txn.proofs.table.session_of.Goals as goal
 

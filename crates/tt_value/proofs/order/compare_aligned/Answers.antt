@@ -1,9 +1,9 @@
-use Rattle.std.proofs.Common.{◌≡◌, ◌*ℤ◌, ◌^◌, ◌-◌, ℤ, pos, min, ap, ap₂, ◌∙◌, subst}
-use Rattle.std.specs.Int.{w64, w128, cast_signed, cast_unsigned}
+use Rattle.std.proofs.Common.{◌≡◌, ◌*ℤ◌, ◌^◌, ◌-◌, ℤ, pos, min, ap₂, ◌∙◌, subst}
+use Rattle.std.specs.Int.{w64, w128}
 use Rattle.std.specs.Int.RustNames.{FitsSigned}
 use Rattle.std.specs.Ordering.{int_cmp}
 use Rattle.std.proofs.lemmas.Int.{to_z-of_z}
-use Rattle.tt_value.specs.Orders.{units_of, scale_of}
+use Rattle.tt_value.specs.Order.{units_of, scale_of}
 use Rattle.tt_value.proofs.TenLemmas.{aligned}
 use Rattle.tt_value.proofs.order.compare_aligned.Goals as goal
 

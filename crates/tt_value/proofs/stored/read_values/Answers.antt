@@ -1,5 +1,5 @@
-use Rattle.std.proofs.Common.{arith, sym, ◌-◌, ◌+◌, ◌≡◌, suc, ap, ◌∙◌, Some}
-use Rattle.tt_value.proofs.ValueLemmas.{go_on, stopped, ended, too_long, Read}
+use Rattle.std.proofs.Common.{arith, sym, ◌-◌, ◌+◌, ◌≡◌, ◌∙◌}
+use Rattle.tt_value.proofs.ValueLemmas.{go_on, stopped, ended, too_long}
 use Rattle.tt_value.proofs.stored.read_values.Goals as goal
 
 pub returns-in-None : goal.returns-in-None

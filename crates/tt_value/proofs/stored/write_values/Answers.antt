@@ -1,4 +1,4 @@
-use Rattle.std.proofs.Common.{arith, ℕ, List, length, take, drop, get_or, sym, ap, ◌∙◌, ◌++◌, ◌∷◌, [], ◌≡◌, ◌+◌, subst}
+use Rattle.std.proofs.Common.{arith, List, length, take, sym, ap, ◌∙◌, ◌++◌, ◌∷◌, [], ◌≡◌, ◌+◌, subst}
 use Rattle.std.proofs.lemmas.List.{take_more}
 use Rattle.tt_value.specs.declared.value.Value.{Value}
 use Rattle.tt_value.proofs.WriteLemmas.{one_more_written, room_left, Written}

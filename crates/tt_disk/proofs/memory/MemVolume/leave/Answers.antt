@@ -1,7 +1,6 @@
 use Rattle.std.proofs.Common.{◌≡◌, subst, map}
-use Rattle.tt_disk.specs.Memory.{AreLeft}
-use Rattle.tt_disk.specs.Least.{least_of}
-use Rattle.tt_disk.proofs.Leaving.{all_left, reads_same, reads_least, each_contents}
+use Rattle.tt_disk.specs.Leave.{each_contents, AreLeft, least_of}
+use Rattle.tt_disk.proofs.Leave.{all_left, reads_same, reads_least}
 use Rattle.tt_disk.proofs.memory.MemVolume.leave.Goals as goal
 
 pub returns-clause-left : goal.returns-clause-left

@@ -1,7 +1,7 @@
 use Rattle.std.proofs.Common.{refl}
 use Rattle.tt_journal.proofs.TrailLemmas.{none_forced}
 use Rattle.tt_engine.proofs.CommitLemmas.{stands_forced}
-use Rattle.tt_engine.proofs.DecidedLemmas.{state_opens}
+use Rattle.tt_engine.specs.RepresentsLaws.{state_opens}
 use Rattle.tt_engine.proofs.engine.Engine.end.Goals as goal
 
 pub returns-in-Ok-clause-ends : goal.returns-in-Ok-clause-ends
@@ -19,5 +19,5 @@ returns-in-Err-clause-ends g c told = record {
   written = λ s h. tt;
   stopped = λ s h.
       let b = (c.in-Err.ensures.performed told).broken s h.log in
-      record { leaves = λ k. state_opens c.args.self.now _ s (g.L.Volume.may c.write.new.volume) c.laws.ensures h (none_forced s.forced s (g.L.Volume.may c.write.new.volume) (b.crash k)); breaks = b };
+      record { leaves = λ k. state_opens c.args.self.now _ s (g.L.Volume.may c.write.new.volume) h (none_forced s.forced s (g.L.Volume.may c.write.new.volume) (b.crash k)); breaks = b };
 }

@@ -4,7 +4,7 @@ use Rattle.std.specs.BTreeSet.{contains}
 use Rattle.std.specs.Ordering.{int_cmp}
 use Rattle.tt_value.specs.declared.refusal.Refusal.TheVariants.{DuplicateKey, LogOut}
 use Rattle.tt_engine.specs.declared.request.Request.TheVariants.{Insert}
-use Rattle.tt_engine.specs.Engines.{IsDecided, IsInsert}
+use Rattle.tt_engine.specs.Memory.{IsDecided, IsInsert}
 use Rattle.tt_engine.proofs.ChangeLemmas.{duplicate, insert_entry, numbers_out, own_is, plain_change, read_back}
 use Rattle.tt_engine.proofs.DecidedLemmas.{refused_so}
 use Rattle.tt_engine.proofs.memory.Memory.insert.Goals as goal
@@ -28,7 +28,7 @@ change-requires c =
       own = record {
         least = c.in-Some.ensures.range.0;
         most = c.in-Some.ensures.range.1;
-        own = own_is c.args.self.now.own c.args.self.now.next c.in-Some.transaction (sym c.in-Some.ensures.number);
+        own = own_is c.args.self.now.transaction c.args.self.now.next_transaction c.in-Some.transaction (sym c.in-Some.ensures.number);
         plain = record {
           entry = insert_entry c.in-Some.transaction c.in-Some-free_place.place c.args.key c.args.value c.in-Ok.entry back c.in-Some.ensures.range.0 c.in-Some.ensures.range.1 c.in-Some-free_place.ensures.some.1
               (record { sfits = c.ranges.key.sfits }) (record { sfits = c.ranges.value.sfits });

@@ -1,5 +1,5 @@
 use Rattle.std.proofs.Common.{◌≡◌, ◌≤◌, ◌-◌, length, arith, refl, false}
-use Rattle.tt_flow.specs.Reading.{kept_bytes}
+use Rattle.tt_flow.specs.Lines.{kept_bytes}
 use Rattle.tt_flow.proofs.Kept.{length-kept}
 use Rattle.tt_flow.proofs.Given.{given_dropped}
 use Rattle.tt_flow.proofs.lines.LineReader.drop_long.Goals.{else-not-self-via-then-not-self+else-kept, else-not-self-via-else-not-self}

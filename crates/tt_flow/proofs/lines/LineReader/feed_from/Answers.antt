@@ -1,7 +1,7 @@
 use Rattle.std.proofs.Common.{take, drop, length, ◌-◌}
 use Rattle.std.proofs.lemmas.List.{take_rest}
 use Rattle.tt_flow.proofs.Kept.{no_feed_from, first_feed_from}
-use Rattle.tt_flow.specs.Reading.{kept_bytes}
+use Rattle.tt_flow.specs.Lines.{kept_bytes}
 use Rattle.tt_flow.proofs.lines.LineReader.feed_from.Goals as goal
 
 pub returns-in-Some : goal.returns-in-Some

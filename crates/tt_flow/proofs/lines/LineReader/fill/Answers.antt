@@ -1,6 +1,6 @@
 use Rattle.std.proofs.Common.{subst, sym, ◌∙◌}
 use Rattle.std.specs.Io.KnownBytes.{Consumes}
-use Rattle.tt_flow.specs.Reading.{HasNoFeed}
+use Rattle.tt_flow.specs.Lines.{HasNoFeed}
 use Rattle.tt_flow.proofs.Taken.{Fills-past, Fills-more, given_same}
 use Rattle.tt_flow.proofs.lines.LineReader.fill.Goals as goal
 
@@ -16,5 +16,5 @@ returns-in-Open-2-clause-read g c = λ script left given is h.
     let took = c.take_more.ensures.took in
     let after = g.S.Source.left c.take_more.new.source in
     let room = c.make_room.ensures in
-    Fills-more c.make_room.new.self c.take_more.new.self took.0 c.take_more.result after (subst HasNoFeed (sym room.kept) c.requires.none) (room.same.input ∙ c.in-Open.is) took.1
-    c.take_more.ensures.end script left given (subst (λ b. Consumes b after took.0) is took.2) (given_same c.args.self.now c.make_room.new.self room.kept room.same c.in-Open.is script left given h)
+    Fills-more c.make_room.new.self c.take_more.new.self took.0 c.take_more.result after (subst HasNoFeed (sym room.kept) c.requires.none) (room.unchanged.input ∙ c.in-Open.is) took.1
+    c.take_more.ensures.end script left given (subst (λ b. Consumes b after took.0) is took.2) (given_same c.args.self.now c.make_room.new.self room.kept room.unchanged c.in-Open.is script left given h)

@@ -2,7 +2,7 @@ use Rattle.std.proofs.Common.{◌≡◌, ◌+◌, ◌≤◌, ◌-◌, ◌++◌, 
 use Rattle.tt_flow.proofs.Kept.{kept_after, kept_front, length-kept}
 use Rattle.tt_flow.proofs.Given.{given_line, Reads-put}
 use Rattle.tt_flow.specs.PutsLine.{PutsLine}
-use Rattle.tt_flow.specs.Reading.{kept_bytes}
+use Rattle.tt_flow.specs.Lines.{kept_bytes}
 use Rattle.std.specs.Str.Lines.{strip_carriage_return}
 use Rattle.tt_flow.proofs.lines.LineReader.give.Goals as goal
 

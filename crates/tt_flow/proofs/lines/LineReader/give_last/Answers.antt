@@ -1,7 +1,7 @@
 use Rattle.std.proofs.Common.{◌≡◌, ◌<◌, length, arith, refl, false}
 use Rattle.tt_flow.proofs.Kept.{kept_none, length-kept}
 use Rattle.tt_flow.proofs.Given.{given_last, Reads-put}
-use Rattle.tt_flow.specs.Reading.{kept_bytes}
+use Rattle.tt_flow.specs.Lines.{kept_bytes}
 use Rattle.tt_flow.proofs.lines.LineReader.give_last.Goals.{else-self-via-then-self+else-not-self, else-self-via-else-self}
 use Rattle.tt_flow.proofs.lines.LineReader.give_last.Goals as goal
 

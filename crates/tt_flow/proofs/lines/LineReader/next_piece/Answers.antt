@@ -1,6 +1,6 @@
 use Rattle.std.proofs.Common.{◌≡◌, subst, sym, ap, ◌∙◌, Ok, length, take, arith, length-append}
 use Rattle.std.proofs.lemmas.List.{take_at}
-use Rattle.tt_flow.specs.Reading.{HasNoFeed, Reads, kept_bytes}
+use Rattle.tt_flow.specs.Lines.{HasNoFeed, Reads, kept_bytes}
 use Rattle.tt_flow.specs.Pieces.{Fills}
 use Rattle.tt_flow.proofs.Taken.{ReadsPiece-err}
 use Rattle.tt_flow.proofs.lines.LineReader.next_piece.Goals as goal

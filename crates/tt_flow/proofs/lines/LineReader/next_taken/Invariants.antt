@@ -1,6 +1,6 @@
 use Rattle.std.proofs.Common.{◌≡◌, ◌≤◌, ◌-◌, ◌^◌, ℕ, List, Option, Some}
-use Rattle.tt_flow.specs.Reading.{HasGiven, HasGivenTold, HasNoFeed, bytes_to_come, kept_bytes}
-use Rattle.tt_disk.specs.Causes.{Stays}
+use Rattle.tt_flow.specs.Lines.{HasGiven, HasGivenTold, HasNoFeed, bytes_to_come, kept_bytes}
+use Rattle.tt_disk.specs.Faults.{Stays}
 use Rattle.tt_flow.proofs.lines.LineReader.next_taken.Given as goal
 
 abbrev pub invariant-pieces : goal.invariant-pieces

@@ -1,9 +1,10 @@
 use Rattle.std.proofs.Common.{ap, sym, ◌∙◌}
 use Rattle.std.proofs.lemmas.Result.{on_ok_weaker}
-use Rattle.tt_value.specs.Orders.{row_cmp}
-use Rattle.tt_index.specs.Entries.{changed}
+use Rattle.tt_value.specs.Order.{row_cmp}
+use Rattle.tt_index.specs.Rows.{changed}
 use Rattle.tt_index.specs.Indexes.{with_place}
-use Rattle.tt_index.specs.Whole.{whole_row, with_nulls}
+use Rattle.tt_index.specs.Numbers.{with_nulls}
+use Rattle.tt_index.specs.Whole.{whole_row}
 use Rattle.tt_index.proofs.Wholes.{changed_whole}
 use Rattle.tt_index.proofs.numbers.Numbers.add.Goals as goal
 

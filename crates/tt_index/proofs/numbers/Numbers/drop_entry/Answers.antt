@@ -1,8 +1,10 @@
 use Rattle.std.proofs.Common.{rules, ◌≡◌, ◌∙◌, None, true, false, refl, ap, sym}
-use Rattle.tt_value.specs.Orders.{row_cmp}
-use Rattle.tt_index.specs.Entries.{changed}
+use Rattle.tt_value.specs.Order.{row_cmp}
+use Rattle.tt_index.specs.Rows.{changed}
 use Rattle.tt_index.specs.Indexes.{without_place}
-use Rattle.tt_index.specs.Whole.{whole_of, is_null_row, with_nulls}
+use Rattle.tt_index.specs.Nulls.{is_null_row}
+use Rattle.tt_index.specs.Numbers.{with_nulls}
+use Rattle.tt_index.specs.Whole.{whole_of}
 use Rattle.tt_index.proofs.Changes.{changed_missing}
 use Rattle.tt_index.proofs.Wholes.{row_is, row_is_null, changed_whole, changed_null, look_apart}
 use Rattle.tt_index.proofs.numbers.Numbers.drop_entry.Goals as goal

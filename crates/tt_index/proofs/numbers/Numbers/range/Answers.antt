@@ -3,10 +3,10 @@ use Rattle.std.specs.List.Sorted.{IsStrictlySortedBy}
 use Rattle.std.specs.Map.{keys_of}
 use Rattle.std.specs.BTreeMap.Range.{entries_between}
 use Rattle.std.specs.Ordering.{int_cmp}
-use Rattle.tt_value.specs.Orders.{row_cmp}
+use Rattle.tt_value.specs.Order.{row_cmp}
 use Rattle.tt_index.specs.Indexes.{Entries, places_between}
-use Rattle.tt_index.specs.Kept.{places_of}
-use Rattle.tt_index.specs.Whole.{as_rows}
+use Rattle.tt_index.specs.PlaceSet.{places_of}
+use Rattle.tt_index.specs.Numbers.{as_rows}
 use Rattle.tt_index.proofs.Wholes.{between_both, rows_ascend}
 use Rattle.tt_index.proofs.numbers.Numbers.range.Goals as goal
 

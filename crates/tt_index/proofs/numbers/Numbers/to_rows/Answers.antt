@@ -1,5 +1,6 @@
 use Rattle.std.proofs.Common.{rules, ◌≡◌, ◌∙◌, ap}
-use Rattle.tt_index.specs.Whole.{as_rows, joined_by_null}
+use Rattle.tt_index.specs.Nulls.{joined_by_null}
+use Rattle.tt_index.specs.Numbers.{as_rows}
 use Rattle.tt_index.proofs.Wholes.{joined}
 use Rattle.tt_index.proofs.numbers.Numbers.to_rows.Goals as goal
 

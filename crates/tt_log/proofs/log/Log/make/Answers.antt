@@ -3,7 +3,7 @@ use Rattle.tt_disk.specs.declared.volume.Name.TheVariants.{Log as LogFile}
 use Rattle.tt_gate.specs.Gate.{gated}
 use Rattle.tt_gate.specs.declared.gate.GateRefusal.{GateRefusal}
 use Rattle.tt_log.proofs.Making.{few_left, short_log}
-use Rattle.tt_log.proofs.Turning.{empty_log}
+use Rattle.tt_log.proofs.Switching.{empty_log}
 use Rattle.tt_log.proofs.log.Log.make.Goals as goal
 
 abbrev made_with : List ℕ → Result (List ℕ × List (List ℕ)) GateRefusal

@@ -1,7 +1,7 @@
 use Rattle.std.proofs.Common.{◌≡◌, ◌∙◌, ap, sym, length, List, ℕ, arith, filter}
 use Rattle.tt_value.specs.declared.position.Position.{Position}
 use Rattle.tt_log.specs.Walk.{is_from}
-use Rattle.tt_log.specs.Logs.{forced_of}
+use Rattle.tt_log.specs.Log.{forced_of}
 use Rattle.tt_log.proofs.Giving.{new_scanning, new_left}
 use Rattle.tt_log.proofs.log.Log.scan.Goals as goal
 

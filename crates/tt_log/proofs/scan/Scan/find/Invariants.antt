@@ -1,8 +1,8 @@
 use Rattle.std.proofs.Common.{◌≡◌, ◌≤◌, ◌<◌}
 use Rattle.tt_disk.specs.Volume.{Keeps}
-use Rattle.tt_log.specs.Logs.{walk_end}
-use Rattle.tt_log.specs.Scans.{IsGoing, ahead, from_here, most_left}
-use Rattle.tt_disk.specs.Causes.{Stays}
+use Rattle.tt_log.specs.Log.{walk_end}
+use Rattle.tt_log.specs.Scan.{IsGoing, ahead, from_here, most_left}
+use Rattle.tt_disk.specs.Faults.{Stays}
 use Rattle.tt_log.proofs.scan.Scan.find.Given as goal
 
 abbrev pub decreases-entries : goal.decreases-entries

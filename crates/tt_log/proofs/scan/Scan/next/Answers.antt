@@ -6,7 +6,7 @@ pub returns-clause-next : goal.returns-clause-next
 returns-clause-next g c told =
     let s = c.args.self.now in
     let log = c.args.log.now in
-    let le : s.file ≤ log.number = omega (arith, c.if-self-current.false, c.current.ensures.number) in
+    let le : s.file ≤ log.current_file = omega (arith, c.if-self-current.false, c.current.ensures.number) in
     let before = c.requires.scanning told le in
     let now = g.V.Volume.now c.args.volume.now in
     let now' = g.V.Volume.now c.find.new.volume in
@@ -16,7 +16,7 @@ pub returns-clause-still : goal.returns-clause-still
 returns-clause-still g c told =
     let s = c.args.self.now in
     let log = c.args.log.now in
-    let le : s.file ≤ log.number = omega (arith, c.if-self-current.false, c.current.ensures.number) in
+    let le : s.file ≤ log.current_file = omega (arith, c.if-self-current.false, c.current.ensures.number) in
     let before = c.requires.scanning told le in
     let now = g.V.Volume.now c.args.volume.now in
     let now' = g.V.Volume.now c.find.new.volume in

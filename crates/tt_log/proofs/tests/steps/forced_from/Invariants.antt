@@ -1,4 +1,4 @@
-use Rattle.tt_log.specs.Scans.{IsScanning}
+use Rattle.tt_log.specs.Scan.{IsScanning}
 use Rattle.tt_log.proofs.tests.steps.forced_from.Given as goal
 
 abbrev pub invariant-entries : goal.invariant-entries

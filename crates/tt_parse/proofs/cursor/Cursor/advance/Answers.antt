@@ -5,4 +5,4 @@ use Rattle.tt_parse.proofs.cursor.Cursor.advance.Goals as goal
 
 pub returns : goal.returns
 returns c =
-    c.lexeme_from-self-inside.ensures.shown ∙ sym (past_next-shown c.self.inside.line.now c.self.inside.next (λ e. (c.self.invariant.3 e).1)) ∙ ap past_next c.self.view_is
+    c.lexeme_from-self-inside.ensures.shown ∙ sym (past_next-shown c.self.inside.line.now c.self.inside.next (λ e. (c.self.invariant.at_end e).1)) ∙ ap past_next c.self.view_is

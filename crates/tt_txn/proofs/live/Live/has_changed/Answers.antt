@@ -3,7 +3,8 @@ use Rattle.std.specs.List.{list_any}
 use Rattle.std.proofs.lemmas.List.{reverse-append}
 use Rattle.std.proofs.lemmas.List.Folds.{list_any-append}
 use Rattle.tt_txn.specs.declared.noted.Noted.{Noted}
-use Rattle.tt_txn.specs.Txns.{LiveTransaction, has_changed, is_on_table}
+use Rattle.tt_txn.specs.Live.{LiveTransaction, has_changed}
+use Rattle.tt_txn.specs.Noted.{is_on_table}
 use Rattle.tt_txn.proofs.live.Live.has_changed.Goals as goal
 
 either : (a b : Bool) → (a || (b || false)) ≡ (b || a)

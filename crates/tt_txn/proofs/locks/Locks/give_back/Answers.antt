@@ -1,6 +1,6 @@
 use Rattle.std.proofs.Common.{◌∙◌, ap, sym}
 use Rattle.std.specs.Set.{remove_key}
-use Rattle.tt_txn.specs.Names.{same_name}
+use Rattle.tt_txn.specs.Same.{same_name}
 use Rattle.tt_txn.specs.Locks.{Holdings, names_of}
 use Rattle.tt_txn.proofs.Holdings.{names_of_map}
 use Rattle.tt_txn.proofs.locks.Locks.give_back.Goals as goal

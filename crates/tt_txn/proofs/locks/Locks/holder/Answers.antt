@@ -3,7 +3,7 @@ use Rattle.std.specs.List.{list_any}
 use Rattle.std.specs.Map.{lookup}
 use Rattle.std.proofs.lemmas.Map.Entries.{place_from_lookup}
 use Rattle.tt_txn.specs.Locks.{Holdings, names_of, is_session}
-use Rattle.tt_txn.specs.Names.{same_name}
+use Rattle.tt_txn.specs.Same.{same_name}
 use Rattle.tt_txn.proofs.Holdings.{names_of_map, none_holds, holder_found}
 use Rattle.tt_txn.proofs.locks.Locks.holder.Goals as goal
 

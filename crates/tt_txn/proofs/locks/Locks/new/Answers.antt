@@ -1,7 +1,8 @@
 use Rattle.std.proofs.Common.{◌≡◌, ◌∙◌, ℕ, [], List, length, rules, ap, sym, subst, inl, inr, arith}
 use Rattle.std.proofs.lemmas.Bool.{cases_lt}
 use Rattle.std.proofs.lemmas.List.{get_or_past}
-use Rattle.tt_txn.specs.Locks.{slots_of, names_in, IsTied}
+use Rattle.tt_txn.specs.Locks.{names_in, IsTied}
+use Rattle.tt_txn.specs.Slots.{slots_of}
 use Rattle.tt_txn.proofs.Ties.{Entry}
 use Rattle.tt_txn.proofs.Holdings.{names_of_map, tied_empty}
 use Rattle.tt_txn.proofs.locks.Locks.new.Goals as goal

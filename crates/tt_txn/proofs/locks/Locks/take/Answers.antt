@@ -6,8 +6,9 @@ use Rattle.std.proofs.lemmas.Bool.{eq-eqb}
 use Rattle.std.proofs.lemmas.Result.{on_ok_weaker, on_err_weaker}
 use Rattle.tt_txn.specs.declared.held.Held.{Held}
 use Rattle.tt_txn.specs.declared.lock_name.LockName.{LockName}
-use Rattle.tt_txn.specs.Locks.{Holdings, names_of, names_in, slots_of, IsTied}
-use Rattle.tt_txn.specs.Names.{same_name}
+use Rattle.tt_txn.specs.Locks.{Holdings, names_of, names_in, IsTied}
+use Rattle.tt_txn.specs.Slots.{slots_of}
+use Rattle.tt_txn.specs.Same.{same_name}
 use Rattle.tt_txn.proofs.Ties.{Slots, Entry}
 use Rattle.tt_txn.proofs.Holdings.{names_of_map, holder_found}
 use Rattle.tt_txn.proofs.locks.Locks.take.Goals as goal

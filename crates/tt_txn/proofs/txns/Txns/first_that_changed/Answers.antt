@@ -1,5 +1,5 @@
 use Rattle.std.proofs.Common.{◌∙◌, ap, sym}
-use Rattle.tt_txn.specs.Txns.{first_that_changed}
+use Rattle.tt_txn.specs.Table.{first_that_changed}
 use Rattle.tt_txn.proofs.Views.{changed_seen}
 use Rattle.tt_txn.proofs.txns.Txns.first_that_changed.Goals as goal
 

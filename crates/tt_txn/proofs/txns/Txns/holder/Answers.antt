@@ -1,5 +1,5 @@
 use Rattle.std.proofs.Common.{◌≤◌, ◌∙◌, ap, sym, arith}
-use Rattle.tt_txn.specs.Names.{same_name}
+use Rattle.tt_txn.specs.Same.{same_name}
 use Rattle.tt_txn.specs.Kept.{seen}
 use Rattle.tt_txn.specs.Txns.{holder}
 use Rattle.tt_txn.proofs.Books.{holder_seat}

@@ -1,5 +1,5 @@
 use Rattle.std.proofs.Common.{◌∙◌, ap, sym}
-use Rattle.tt_txn.specs.Txns.{Transactions, least_of, firsts}
+use Rattle.tt_txn.specs.Table.{Transactions, least_of, firsts}
 use Rattle.tt_txn.proofs.Views.{firsts_seen}
 use Rattle.tt_txn.proofs.txns.Txns.low.Goals as goal
 

@@ -1,6 +1,6 @@
 use Rattle.std.proofs.Common.{◌≡◌, ◌∙◌, ap, sym, Some, None}
 use Rattle.std.specs.Prelude.{slice_get, option_map}
-use Rattle.tt_txn.specs.Txns.{Transactions, noted_by}
+use Rattle.tt_txn.specs.Table.{Transactions, noted_by}
 use Rattle.tt_txn.specs.Seen.{change_parts}
 use Rattle.tt_txn.proofs.Books.{ascends}
 use Rattle.tt_txn.proofs.Views.{noted_seen}

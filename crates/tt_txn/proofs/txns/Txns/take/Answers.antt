@@ -3,10 +3,12 @@ use Rattle.std.specs.List.{list_any}
 use Rattle.std.specs.Option.{option_map}
 use Rattle.std.proofs.lemmas.Result.{on_ok_weaker, on_err_weaker}
 use Rattle.tt_txn.specs.declared.lock_name.LockName.{LockName}
-use Rattle.tt_txn.specs.Names.{same_name}
+use Rattle.tt_txn.specs.Same.{same_name}
 use Rattle.tt_txn.specs.Locks.{Holdings, names_of, Holds}
 use Rattle.tt_txn.specs.Kept.{seen, with_names, IsKept}
-use Rattle.tt_txn.specs.Txns.{LiveTransaction, Transactions, transaction, is_live, number_of, holder, taking, with_changed}
+use Rattle.tt_txn.specs.Live.{LiveTransaction, taking}
+use Rattle.tt_txn.specs.Table.{Transactions, transaction, is_live, number_of, with_changed}
+use Rattle.tt_txn.specs.Txns.{holder}
 use Rattle.tt_txn.proofs.Books.{ascends, after_taking}
 use Rattle.tt_txn.proofs.Tables.{seat_in}
 use Rattle.tt_txn.proofs.Views.{IsOf, live_seen, no_holder, unheld_names, one_of, seen_same, seen_taking, there_seen}

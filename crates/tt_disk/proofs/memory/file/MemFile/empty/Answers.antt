@@ -1,19 +1,20 @@
-use Rattle.std.proofs.Common.{◌≡◌, ◌++◌, [], ◌∷◌, inr, refl, arith, sym, subst}
+use Rattle.std.proofs.Common.{◌≡◌, ◌++◌, [], ◌∷◌, inr, refl, arith}
 use Rattle.std.proofs.lemmas.Grind.{common_steps}
 use Rattle.tt_disk.specs.declared.memory.file.Step.TheVariants.{Create}
-use Rattle.tt_disk.specs.Volume.{Created}
-use Rattle.tt_disk.specs.Effects.{contents}
-use Rattle.tt_disk.specs.Memory.{FileSteps}
-use Rattle.tt_disk.proofs.Entries.{half_done, noted}
-use Rattle.tt_disk.proofs.Reaching.{reached, led_on, led_still}
-use Rattle.tt_disk.proofs.memory.file.MemFile.empty.Goals.{then-is_err-via-then-is_err, then-is_err-via-else-is_err+then-fails}
+use Rattle.tt_disk.specs.Steps.{contents}
+use Rattle.tt_disk.proofs.File.{half_done, noted, reached, led_on, led_still}
 use Rattle.tt_disk.proofs.memory.file.MemFile.empty.Goals as goal
 
 pub returns-then-is_err-clause-steps : goal.returns-then-is_err-clause-steps
-returns-then-is_err-clause-steps c = elim c.then-is_err.branch [
-  | then-is_err-via-then-is_err w ↦ subst (λ file. FileSteps Created c.args.self.now file) (sym w.self-is) (half_done Create _ _ _ refl refl c.push.ensures.items refl)
-  | then-is_err-via-else-is_err+then-fails w ↦ subst (λ file. FileSteps Created c.args.self.now file) (sym w.self-is) (half_done Create _ _ _ refl refl c.push.ensures.items refl)
-]
+returns-then-is_err-clause-steps c = half_done Create _ _ _ refl refl c.push.ensures.items refl
+
+pub returns-then-fails-clause-steps : goal.returns-then-fails-clause-steps
+returns-then-fails-clause-steps c = half_done Create _ _ _ refl refl c.push.ensures.items refl
+
+pub returns-then-fails-clause-reaches : goal.returns-then-fails-clause-reaches
+returns-then-fails-clause-reaches c =
+    let pushed : c.push.new.self.items ≡ c.args.self.now.steps.items ++ Create ∷ [] = grind (arith, common_steps) in
+    reached Create _ _ refl pushed
 
 pub returns-clause-steps : goal.returns-clause-steps
 returns-clause-steps c =

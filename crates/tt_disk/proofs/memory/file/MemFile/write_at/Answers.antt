@@ -1,20 +1,20 @@
-use Rattle.std.proofs.Common.{◌≡◌, ◌++◌, [], ◌∷◌, refl, arith, sym, subst, length}
+use Rattle.std.proofs.Common.{◌≡◌, ◌++◌, [], ◌∷◌, refl, arith, length}
 use Rattle.std.proofs.lemmas.Grind.{common_steps}
 use Rattle.tt_disk.specs.declared.memory.file.Step.TheVariants.{Write}
-use Rattle.tt_disk.specs.Volume.{Torn}
-use Rattle.tt_disk.specs.Effects.{contents}
-use Rattle.tt_disk.specs.Memory.{FileSteps}
-use Rattle.tt_disk.proofs.Entries.{half_done, noted}
-use Rattle.tt_disk.proofs.Reaching.{reached, led_on, led_still, on_ok}
-use Rattle.tt_disk.proofs.Overwrites.{torn_result}
-use Rattle.tt_disk.proofs.memory.file.MemFile.write_at.Goals.{then-is_err-via-then-is_err, then-is_err-via-else-is_err+then-fails}
+use Rattle.tt_disk.specs.Steps.{contents}
+use Rattle.tt_disk.proofs.File.{half_done, noted, reached, led_on, led_still, if_noted, torn_result}
 use Rattle.tt_disk.proofs.memory.file.MemFile.write_at.Goals as goal
 
 pub returns-then-is_err-clause-steps : goal.returns-then-is_err-clause-steps
-returns-then-is_err-clause-steps c = elim c.then-is_err.branch [
-  | then-is_err-via-then-is_err w ↦ subst (λ file. FileSteps (Torn c.args.at (length c.args.bytes.now)) c.args.self.now file) (sym w.self-is) (half_done (Write c.args.at (length c.args.bytes.now)) _ _ _ refl refl c.push.ensures.items refl)
-  | then-is_err-via-else-is_err+then-fails w ↦ subst (λ file. FileSteps (Torn c.args.at (length c.args.bytes.now)) c.args.self.now file) (sym w.self-is) (half_done (Write c.args.at (length c.args.bytes.now)) _ _ _ refl refl c.push.ensures.items refl)
-]
+returns-then-is_err-clause-steps c = half_done (Write c.args.at (length c.args.bytes.now)) _ _ _ refl refl c.push.ensures.items refl
+
+pub returns-then-fails-clause-steps : goal.returns-then-fails-clause-steps
+returns-then-fails-clause-steps c = half_done (Write c.args.at (length c.args.bytes.now)) _ _ _ refl refl c.push.ensures.items refl
+
+pub returns-then-fails-clause-reaches : goal.returns-then-fails-clause-reaches
+returns-then-fails-clause-reaches c =
+    let pushed : c.push.new.self.items ≡ c.args.self.now.steps.items ++ (Write c.args.at (length c.args.bytes.now)) ∷ [] = grind (arith, common_steps) in
+    reached (Write c.args.at (length c.args.bytes.now)) _ _ refl pushed
 
 pub returns-in-Some-clause-steps : goal.returns-in-Some-clause-steps
 returns-in-Some-clause-steps c =
@@ -24,7 +24,7 @@ returns-in-Some-clause-steps c =
 pub returns-in-Some-clause-reaches : goal.returns-in-Some-clause-reaches
 returns-in-Some-clause-reaches c =
     let pushed : c.push.new.self.items ≡ c.args.self.now.steps.items ++ (Write c.args.at (length c.args.bytes.now)) ∷ [] = grind (arith, common_steps) in
-    on_ok _ (reached (Write c.args.at (length c.args.bytes.now)) _ _ refl pushed)
+    if_noted _ (reached (Write c.args.at (length c.args.bytes.now)) _ _ refl pushed)
 
 pub invariant_of-self-then-fails : goal.invariant_of-self-then-fails
 invariant_of-self-then-fails c = record { led = led_still (Write c.args.at (length c.args.bytes.now)) c.args.self.now.steps.items _ (contents c.args.self.now.settled) (contents c.args.self.now.bytes) _ c.push.ensures.items c.args.self.now.led }

@@ -1,0 +1,182 @@
+-- The change to the next file.
+use Rattle.std.proofs.Common.{◌≡◌, ◌≤◌, ◌<◌, ◌+◌, ◌-◌, ◌&&◌, ◌⊎◌, inl, inr, ⊎_elim, ℕ, zero, suc, List, [], ◌∷◌, ◌++◌, refl, sym, ap, ◌∙◌, subst, Bool, true, false, arith, Option, Some, Result, Ok, nat_lt}
+use Rattle.std.specs.Prelude.{IsOk}
+use Rattle.std.proofs.lemmas.Bool.{eq-eqb, lt-ltb}
+use Rattle.tt_disk.specs.declared.volume.Name.{Name}
+use Rattle.tt_disk.specs.declared.volume.Name.TheVariants.{Log as LogFile}
+use Rattle.tt_disk.specs.Volume.{IsSettled, size_of, OnlyAt}
+use Rattle.tt_gate.specs.declared.gate.GateFile.{GateFile}
+use Rattle.tt_gate.specs.declared.gate.GateRefusal.{GateRefusal}
+use Rattle.tt_gate.specs.Gate.{gated, end_of as gate_end}
+use Rattle.tt_gate.specs.GateFile.{with_batch, bodies_of, staged_in, IsReady, CrashLeavesFormerOrMore}
+use Rattle.tt_record.specs.declared.entry.Entry.{Entry}
+use Rattle.tt_record.specs.declared.entry.Entry.TheVariants.{Switch}
+use Rattle.tt_record.specs.Entry.{entry_bytes, IsBody}
+use Rattle.tt_record.specs.BodyLaws.{body_is_read}
+use Rattle.tt_record.specs.Read.{entries_of}
+use Rattle.tt_log.specs.declared.log.Log.{Log}
+use Rattle.tt_log.specs.declared.refusal.LogRefusal.{LogRefusal}
+use Rattle.tt_log.specs.Walk.{Files, LogContents, walk, on_part, file_read, nothing, log_of, with_more, switched, switches, log_header}
+use Rattle.tt_record.specs.Place.{position}
+use Rattle.tt_log.specs.Log.{IsOpen, MayLeave, CrashLeavesLog, CrashLeavesForced, OnlyTwo, IsUntouched, unforced, walk_end}
+use Rattle.tt_log.proofs.Crash.{Outcomes, Around, put_log, put_apart, put_left, all_left, same_in, switched_in, left_same, left_switched}
+use Rattle.tt_log.proofs.FileParts.{file_made}
+use Rattle.tt_log.proofs.Forcing.{IsFound, body_alone}
+use Rattle.tt_log.proofs.Following.{Standing}
+
+-- a file that another call left alone
+pub still_ready : (file : GateFile) (name : Name) (now now' : Files) (may may' : Outcomes) → ¬ (file.name ≡ name) → OnlyAt name now now' may may' → IsReady file now may → IsReady file now' may'
+still_ready file name now now' may may' apart only r =
+    let e = only.reads file.name apart in
+    record {
+      laid = record {
+        whole = subst (λ o. IsOk (gated o)) (sym e) r.laid.whole;
+        gate = subst (λ o. file.gate ≡ gate_end (bodies_of (gated o))) (sym e) r.laid.gate;
+        room = subst (λ o. 0 < file.staged → 9 + file.gate + file.staged ≤ size_of o) (sym e) r.laid.room;
+      };
+      kept = λ s c left. r.kept s c (only.crash file.name apart c left) ∙ sym (ap gated e);
+      begun = r.begun;
+    }
+
+pub apart_next : (name : Name) (m n : ℕ) → name ≡ LogFile m → ¬ (m ≡ n) → ¬ (name ≡ LogFile n)
+apart_next name m n is apart same = let eq : m ≡ n = cc in apart eq
+
+-- the next file is made
+pub made_now : (first m base : ℕ) (now1 now2 : Files) (may1 may2 : Outcomes) → IsFound (log_of first now1) m base → OnlyAt (LogFile (m + 1)) now1 now2 may1 may2 → log_of first now2 ≡ log_of first now1
+made_now first m base now1 now2 may1 may2 f only =
+    same_in first m now1 now2 f.found f.is f.at (λ j below. only.reads (LogFile j) (apart_next (LogFile j) j (m + 1) refl (λ eq. omega (arith, below, eq))))
+    (ap gated (only.reads (LogFile m) (apart_next (LogFile m) m (m + 1) refl (λ eq. omega (arith, eq))))) ∙ sym f.is
+
+pub made_left : (first m base : ℕ) (now1 now2 : Files) (may1 may2 : Outcomes) → Around first m base now1 may1 → OnlyAt (LogFile (m + 1)) now1 now2 may1 may2 → CrashLeavesLog first (log_of first now1) may2
+made_left first m base now1 now2 may1 may2 a only files left =
+    let c = now1 (LogFile (m + 1)) in
+    let files' = put_log (m + 1) c files in
+    let former : log_of first files' ≡ Ok a.found = a.kept files' (put_left (m + 1) c files may1 (a.reads (LogFile (m + 1))) (λ n apart. only.crash n apart (files n) (left n))) ∙ a.is in
+    same_in first m files' files a.found former a.at (λ j below. sym (put_apart (m + 1) j c files (λ eq. omega (arith, below, eq))))
+    (ap gated (sym (put_apart (m + 1) m c files (λ eq. omega (arith, eq))))) ∙ sym a.is
+
+pub around_made : (first m base : ℕ) (now1 now2 : Files) (may1 may2 : Outcomes) → IsFound (log_of first now1) m base → Around first m base now1 may1 → OnlyAt (LogFile (m + 1)) now1 now2 may1 may2 → ((n : Name) → may2 n (now2 n)) → Around first m base now2 may2
+around_made first m base now1 now2 may1 may2 f a only reads =
+    let same = made_now first m base now1 now2 may1 may2 f only in
+    record {
+      found = a.found;
+      is = same ∙ a.is;
+      at = a.at;
+      offset = a.offset;
+      reads = reads;
+      kept = λ files left. made_left first m base now1 now2 may1 may2 a only files left ∙ sym same;
+    }
+
+-- the entries of a log are forced, and the next file is made
+pub record Moved (log moved : Log) (old now next : Files) (may may' may'' : Outcomes) : Type 1 where
+  pub found : IsFound (log_of log.first_file next) moved.current_file moved.forced_bytes
+  pub same : log_of log.first_file next ≡ with_more (unforced log) (log_of log.first_file old)
+  pub around : CrashLeavesForced log old may → Around log.first_file moved.current_file moved.forced_bytes next may''
+  pub left : CrashLeavesForced log old may → CrashLeavesLog log.first_file (with_more (unforced log) (log_of log.first_file old)) may''
+
+switches_next : (m : ℕ) → m < 999999 → switches m (Switch (m + 1) ∷ []) ≡ true
+switches_next m below = ap (λ (b : Bool). b && nat_lt m 999999) (eq-eqb (m + 1) (m + 1) refl) ∙ lt-ltb m 999999 below
+
+abbrev made_with : List ℕ → Result (List ℕ × List (List ℕ)) GateRefusal
+made_with header = Ok (header, [])
+
+-- one call that appends the Switch, with an empty file behind
+pub record SwitchStep (first m : ℕ) (name : Name) (given body : List ℕ) (old new : Files) (may may' : Outcomes) : Type 0 where
+  pub named : name ≡ LogFile m
+  pub alone : given ≡ body
+  pub entries : entries_of body ≡ Some (Switch (m + 1) ∷ [])
+  pub only : OnlyAt name old new may may'
+  pub crash : CrashLeavesFormerOrMore (may name) (gated (old name)) given (may' name)
+  pub next : (c : Option (List ℕ)) → may (LogFile (m + 1)) c → gated c ≡ Ok (log_header (m + 1), [])
+  pub reads : may (LogFile (m + 1)) (old (LogFile (m + 1)))
+  pub below : m < 999999
+  pub low : first ≤ m
+
+-- the Switch that an open log appends, once the next file is made
+pub switching : (first : ℕ) (log : Log) (before old new : Files) (may_before may may' : Outcomes) (given header : List ℕ) → IsOpen log before may_before → given ≡ entry_bytes (Switch (log.current_file + 1))
+    → IsBody given (Switch (log.current_file + 1) ∷ []) → OnlyAt log.file.name old new may may'
+    → CrashLeavesFormerOrMore (may log.file.name) (gated (old log.file.name)) (staged_in log.file (old log.file.name) ++ given) (may' log.file.name)
+    → IsSettled (LogFile (log.current_file + 1)) old may → gated (old (LogFile (log.current_file + 1))) ≡ Ok (header, []) → header ≡ log_header (log.current_file + 1)
+    → may (LogFile (log.current_file + 1)) (old (LogFile (log.current_file + 1))) → log.current_file < 999999 → first ≤ log.current_file
+    → SwitchStep first log.current_file log.file.name (staged_in log.file (old log.file.name) ++ given) (entry_bytes (Switch (log.current_file + 1))) old new may may'
+switching first log before old new may_before may may' given header o is body only crash settled made head reads below low = record {
+  named = log.named;
+  alone = body_alone log.file (old log.file.name) given o.fresh ∙ is;
+  entries = body_is_read _ _ (subst (λ (l : List ℕ). IsBody l (Switch (log.current_file + 1) ∷ [])) is body);
+  only = only;
+  crash = crash;
+  next = λ c left. ap gated (settled c left) ∙ made ∙ ap made_with head;
+  reads = reads;
+  below = below;
+  low = low;
+}
+
+next_apart : (m : ℕ) (name : Name) → name ≡ LogFile m → ¬ (LogFile (m + 1) ≡ name)
+next_apart m name is same = let eq : m + 1 ≡ m = cc in omega (arith, eq)
+
+more_switched : (first m base : ℕ) (name : Name) (given body : List ℕ) (old new files : Files) (may may' : Outcomes) → Around first m base old may → SwitchStep first m name given body old new may may' → MayLeave may' files
+    → gated (files (LogFile m)) ≡ with_batch body (gated (old (LogFile m))) → log_of first files ≡ switched (log_of first old)
+more_switched first m base name given body old new files may may' a t left more =
+    left_switched first m base body (Switch (m + 1) ∷ []) old files may a (λ n apart. t.only.crash n (λ same. apart (same ∙ t.named)) (files n) (left n)) more t.entries refl (switches_next m t.below)
+    (omega (arith, t.below, t.low)) (omega (arith, t.below)) (t.next (files (LogFile (m + 1))) (t.only.crash (LogFile (m + 1)) (next_apart m name t.named) (files (LogFile (m + 1))) (left (LogFile (m + 1)))))
+
+pub switched_left : (first m base : ℕ) (name : Name) (given body : List ℕ) (old new : Files) (may may' : Outcomes) → Around first m base old may → SwitchStep first m name given body old new may may' → (files : Files) → MayLeave may' files
+    → (log_of first files ≡ log_of first old) ⊎ (log_of first files ≡ switched (log_of first old))
+switched_left first m base name given body old new may may' a t files left =
+    by_case (subst (λ l. CrashLeavesFormerOrMore (may (LogFile m)) (gated (old (LogFile m))) l (may' (LogFile m))) t.alone (subst (λ n. CrashLeavesFormerOrMore (may n) (gated (old n)) given (may' n)) t.named t.crash) (files (LogFile m)) (left (LogFile m)))
+  where
+    others : (n : Name) → ¬ (n ≡ LogFile m) → may n (files n)
+    others n apart = t.only.crash n (λ same. apart (same ∙ t.named)) (files n) (left n)
+
+    by_case : may (LogFile m) (files (LogFile m)) ⊎ ((gated (files (LogFile m)) ≡ gated (old (LogFile m))) ⊎ (gated (files (LogFile m)) ≡ with_batch body (gated (old (LogFile m)))))
+        → (log_of first files ≡ log_of first old) ⊎ (log_of first files ≡ switched (log_of first old))
+    by_case (inl former) = inl (a.kept files (all_left m files may former others))
+    by_case (inr (inl same)) = inl (left_same first m base old files may a others same)
+    by_case (inr (inr more)) = inr (more_switched first m base name given body old new files may may' a t left more)
+
+pub switched_now : (first m base : ℕ) (name : Name) (given body : List ℕ) (old new : Files) (may may' : Outcomes) → IsFound (log_of first old) m base → SwitchStep first m name given body old new may may'
+    → gated (new name) ≡ with_batch given (gated (old name)) → log_of first new ≡ switched (log_of first old)
+switched_now first m base name given body old new may may' f t done =
+    let reads = subst (λ n. (k : Name) → ¬ (k ≡ n) → new k ≡ old k) t.named t.only.reads in
+    switched_in first m body (Switch (m + 1) ∷ []) old new f.found f.is f.at (omega (arith, t.below, t.low)) (omega (arith, t.below))
+    (λ j below. reads (LogFile j) (apart_next (LogFile j) j m refl (λ eq. omega (arith, below, eq))))
+    (subst (λ n. gated (new n) ≡ with_batch body (gated (old n))) t.named (done ∙ ap (λ (l : List ℕ). with_batch l (gated (old name))) t.alone)) t.entries refl (switches_next m t.below)
+    (ap gated (reads (LogFile (m + 1)) (apart_next (LogFile (m + 1)) (m + 1) m refl (λ eq. omega (arith, eq)))) ∙ t.next (old (LogFile (m + 1))) t.reads)
+    ∙ ap switched (sym f.is)
+
+pub switched_kept : (first m base : ℕ) (name : Name) (given body : List ℕ) (old new : Files) (may may' : Outcomes) → Around first m base old may → SwitchStep first m name given body old new may may'
+    → log_of first new ≡ switched (log_of first old) → gated (new name) ≡ with_batch given (gated (old name)) → IsSettled name new may' → CrashLeavesLog first (log_of first new) may'
+switched_kept first m base name given body old new may may' a t now done settled files left =
+    more_switched first m base name given body old new files may may' a t left
+    (subst (λ n. gated (files n) ≡ with_batch body (gated (old n))) t.named (ap gated (settled (files name) (left name)) ∙ done ∙ ap (λ (l : List ℕ). with_batch l (gated (old name))) t.alone))
+    ∙ sym now
+
+pub switched_end : (r : Standing) (m base : ℕ) → IsFound r m base → IsOk (switched r) × (walk_end (switched r) ≡ position (m + 1) 0)
+switched_end r m base f = (subst (λ (q : Standing). IsOk (switched q)) (sym f.is) refl, ap (λ (q : Standing). walk_end (switched q)) f.is ∙ ap (λ (k : ℕ). position (k + 1) 0) f.at)
+
+-- entries that are forced stay so, whether or not the Switch behind them is there
+pub to_more : (r r0 r2 : Result LogContents LogRefusal) (es : List Entry) → r2 ≡ with_more es r0 → (r ≡ r2) ⊎ (r ≡ switched r2) → (r ≡ with_more es r0) ⊎ (r ≡ switched (with_more es r0))
+to_more r r0 r2 es is either = ⊎_elim (λ same. inl (same ∙ is)) (λ switch. inr (switch ∙ ap switched is)) either
+
+-- a call that changes the current file alone leaves the next one
+pub next_untouched : (m : ℕ) (old new : Files) (may may' : Outcomes) → OnlyAt (LogFile m) old new may may' → IsUntouched (LogFile (m + 1)) old new may may'
+next_untouched m old new may may' only =
+    let apart = apart_next (LogFile (m + 1)) (m + 1) m refl (λ eq. omega (arith, eq)) in
+    record { reads = only.reads (LogFile (m + 1)) apart; crash = only.crash (LogFile (m + 1)) apart }
+
+walk_empty : (most n : ℕ) (files : Files) → 0 < most → file_read n (files (LogFile n)) ≡ Ok ([], false) → walk most n files ≡ Ok (record { entries = []; end = position n 0 })
+walk_empty zero n files some read = absurd (omega arith)
+walk_empty (suc most) n files some read = ap (λ p. on_part n p (walk most (n + 1) files)) read
+
+-- a log of one empty file
+pub empty_log : (files : Files) → gated (files (LogFile 0)) ≡ Ok (log_header 0, []) → log_of 0 files ≡ Ok nothing
+unfolding log_of
+empty_log files is = walk_empty (1000000 - 0) 0 files (omega arith) (file_made 0 (files (LogFile 0)) is)
+
+-- what three calls did, on a file, on the next one, and on the first again
+pub only_two : (one two last : Name) (a b c d : Files) (may_a may_b may_c may_d : Outcomes) → OnlyAt one a b may_a may_b → OnlyAt two b c may_b may_c
+    → last ≡ one → OnlyAt last c d may_c may_d → OnlyTwo one two a d may_a may_d
+only_two one two last a b c d may_a may_b may_c may_d before between same behind = record {
+  reads = λ n not_one not_two. behind.reads n (λ is. not_one (is ∙ same)) ∙ between.reads n not_two ∙ before.reads n not_one;
+  crash = λ n not_one not_two file left. before.crash n not_one file (between.crash n not_two file (behind.crash n (λ is. not_one (is ∙ same)) file left));
+}

@@ -1,0 +1,85 @@
+-- What the walk through the files of a log has found.
+use Rattle.std.specs.Prelude.{◌≡◌, ◌⊎◌, ◌<◌, ◌≤◌, ℕ, List, true, false, Option, Result, Ok, Err}
+use Rattle.tt_disk.specs.declared.volume.Name.TheVariants.{Log as LogFile}
+use Rattle.tt_gate.specs.GateFile.{IsEnd as IsGateEnd}
+use Rattle.tt_gate.specs.Walk.{IsGate}
+use Rattle.tt_value.specs.declared.position.Position.{Position}
+use Rattle.tt_record.specs.declared.entry.Entry.{Entry}
+use Rattle.tt_log.specs.Lengths.{total}
+use Rattle.tt_log.specs.declared.file.FileEnd.{FileEnd}
+use Rattle.tt_log.specs.declared.file.FileCursor.{FileCursor}
+use Rattle.tt_log.specs.declared.file.BatchStep.{BatchStep}
+use Rattle.tt_log.specs.declared.file.BatchStep.TheVariants.{On, Ends}
+use Rattle.tt_log.specs.declared.opening.LogEnd.{LogEnd}
+use Rattle.tt_log.specs.declared.refusal.LogRefusal.{LogRefusal}
+use Rattle.tt_log.specs.declared.refusal.LogRefusal.TheVariants.{Failed, NoMemory}
+use Rattle.tt_log.specs.Walk.{Files, LogContents, Part, before}
+use Rattle.tt_log.specs.Limits.{FILE_MOST, LAST_LOG_FILE, LOG_FILES_END}
+use Rattle.tt_log.specs.Batch.{rest_read, IsRefused}
+use Rattle.tt_log.specs.Opening.{starts_at, is_place}
+use Rattle.tt_gate.specs.Limits.{FIRST_GATE, LONGEST_FILE}
+
+-- a file's entries were all read
+pub record IsEnd (part : Part) (end : FileEnd) : Type 0 where
+  pub es : List Entry
+  pub is : part ≡ Ok (es, end.switched)
+  pub long : total es ≡ end.total
+
+pub record HasEnd (wanted : ℕ) (part : Part) (end : FileEnd) : Type 0 where
+  pub end_is : IsEnd part end
+  pub place : end.is_place ≡ is_place wanted end_is.es
+
+abbrev pub IsFileEnd : ℕ → Part → Result FileEnd LogRefusal → Type 0
+IsFileEnd wanted part (Ok end) = HasEnd wanted part end
+IsFileEnd wanted part (Err e) = IsRefused e part
+
+-- a file's entries were read up to a gate
+pub record IsReached (wanted n : ℕ) (file : Option (List ℕ)) (at : FileCursor) : Type 0 where
+  pub es : List Entry
+  pub gate : IsGate file at.gate
+  pub is : rest_read n FIRST_GATE 0 file ≡ before es (rest_read n at.gate at.offset file)
+  pub long : total es ≡ at.offset
+  pub starts : at.starts ≡ starts_at wanted 0 es
+
+abbrev pub HasRead : ℕ → ℕ → Option (List ℕ) → Result BatchStep LogRefusal → Type 0
+HasRead wanted n file (Ok (On at)) = IsReached wanted n file at
+HasRead wanted n file (Ok (Ends end)) = HasEnd wanted (rest_read n FIRST_GATE 0 file) end
+HasRead wanted n file (Err e) = IsRefused e (rest_read n FIRST_GATE 0 file)
+
+-- where no Switch ends a file's entries, the closed gate behind them lies where the end says
+abbrev pub Closes : Option (List ℕ) → FileEnd → Type 0
+Closes file end = end.switched ≡ false → IsGateEnd file end.gate
+
+-- where a walk ends its file without a Switch, the closed gate lies where the end says
+abbrev pub ClosesIfEnded : Option (List ℕ) → BatchStep → Type 0
+ClosesIfEnded file (On at) = Unit {0}
+ClosesIfEnded file (Ends end) = Closes file end
+
+-- the ranges of what was reached
+abbrev pub HasRoom : ℕ → FileCursor → Type 0
+HasRoom gate at = (gate < at.gate) × (at.gate < LONGEST_FILE) × (at.offset ≤ FILE_MOST)
+
+abbrev pub IsInRange : ℕ → FileEnd → Type 0
+IsInRange n end = (end.total ≤ FILE_MOST) × (end.switched ≡ true → n < LAST_LOG_FILE) × (end.gate < LONGEST_FILE)
+
+abbrev pub StepsWithin : ℕ → ℕ → BatchStep → Type 0
+StepsWithin n gate (On at) = HasRoom gate at
+StepsWithin n gate (Ends end) = IsInRange n end
+
+-- the walk ends here, or is refused so
+pub record FoundEnd (r : Result LogContents LogRefusal) (at : Position) : Type 0 where
+  pub found : LogContents
+  pub is : r ≡ Ok found
+  pub end : found.end ≡ at
+
+abbrev pub IsFollowed : Result LogContents LogRefusal → Result LogEnd LogRefusal → Type 0
+IsFollowed r (Ok end) = FoundEnd r end.at
+IsFollowed r (Err e) = (e ≡ Failed) ⊎ ((e ≡ NoMemory) ⊎ (r ≡ Err e))
+
+-- the ranges of a log's end, in a file from n on
+abbrev pub IsLogEndInRange : ℕ → LogEnd → Type 0
+IsLogEndInRange n end = (n ≤ end.at.file) × (end.at.file < LOG_FILES_END) × (end.at.offset ≤ FILE_MOST) × (end.gate < LONGEST_FILE)
+
+-- the closed gate behind a log's end lies where it says
+abbrev pub IsClosedIn : Files → LogEnd → Type 0
+IsClosedIn files end = IsGateEnd (files (LogFile end.at.file)) end.gate

@@ -1,0 +1,221 @@
+-- What a crash leaves of a log, and what a Log stands for.
+use Rattle.std.specs.Prelude.{◌≡◌, ◌++◌, ◌⊎◌, ◌<◌, ◌≤◌, ◌+◌, ◌&&◌, false, ℕ, List, [], take, length, nat_eq, nat_le, nat_lt, not, is_some, ◌||◌, Bool, true, if◌then◌else◌, Option, Some, None, Result, Ok, Err, IsOk}
+use Rattle.tt_disk.specs.declared.volume.Name.{Name}
+use Rattle.tt_disk.specs.declared.volume.Name.TheVariants.{Ds, Log as LogFile, SetImage, SetLog}
+use Rattle.tt_gate.specs.GateFile.{IsReady}
+use Rattle.tt_record.specs.declared.entry.Entry.{Entry}
+use Rattle.tt_value.specs.declared.position.Position.{Position}
+use Rattle.tt_record.specs.Read.{entries_of}
+use Rattle.tt_record.specs.Entry.{entry_bytes, length_of, IsEntry, IsBody}
+use Rattle.tt_log.specs.Lengths.{total}
+use Rattle.tt_log.specs.declared.log.Log.{Log}
+use Rattle.tt_log.specs.declared.refusal.LogRefusal.{LogRefusal}
+use Rattle.tt_log.specs.Walk.{Files, LogContents, log_of, with_more, switched, no_switch}
+use Rattle.tt_record.specs.Place.{position_of, position}
+
+-- what a Log shows: the number of the file that it begins with
+abbrev pub first_file_of : Log → ℕ
+first_file_of log = log.first_file
+
+-- the number of the file that it adds to
+abbrev pub current_file_of : Log → ℕ
+current_file_of log = log.current_file
+
+-- where the last forced entry ends
+abbrev pub force_position_of : Log → Position
+force_position_of log = log.force
+
+-- how many bytes the entries of a file may have
+abbrev pub file_size_of : Log → ℕ
+file_size_of log = log.file_size
+
+-- how many bytes of entries the buffer has room for
+abbrev pub buffer_size_of : Log → ℕ
+buffer_size_of log = length log.buffer.items
+
+-- these files may be what a crash leaves
+abbrev pub MayLeave : (Name → Option (List ℕ) → Type 0) → Files → Type 0
+MayLeave may files = (name : Name) → may name (files name)
+
+-- in every map of files that a crash may leave, the walk from this file finds just this
+abbrev pub CrashLeavesLog : ℕ → Result LogContents LogRefusal → (Name → Option (List ℕ) → Type 0) → Type 0
+CrashLeavesLog first found may = (files : Files) → MayLeave may files → log_of first files ≡ found
+
+-- in every map of files that a crash may leave, the walk from this file finds this, or this and all of these entries
+abbrev pub CrashLeavesLogOr : ℕ → Result LogContents LogRefusal → List Entry → (Name → Option (List ℕ) → Type 0) → Type 0
+CrashLeavesLogOr first found es may = (files : Files) → MayLeave may files → (log_of first files ≡ found) ⊎ (log_of first files ≡ with_more es found)
+
+-- A crash leaves the log as found, or with all of these entries; with all of them the end may be the start of the next file.
+abbrev pub CrashLeavesSwitched : ℕ → Result LogContents LogRefusal → List Entry → (Name → Option (List ℕ) → Type 0) → Type 0
+CrashLeavesSwitched first found es may = (files : Files) → MayLeave may files → (log_of first files ≡ found) ⊎ ((log_of first files ≡ with_more es found) ⊎ (log_of first files ≡ switched (with_more es found)))
+
+abbrev pub walk_end : Result LogContents LogRefusal → Position
+walk_end (Ok found) = found.end
+walk_end (Err e) = position 0 0
+
+abbrev pub or_none : Option (List Entry) → List Entry
+or_none (Some es) = es
+or_none None = []
+
+-- the entries that aren't forced yet
+abbrev pub unforced : Log → List Entry
+unforced log = or_none (entries_of (take log.buffered log.buffer.items))
+
+-- how many bytes they have
+abbrev pub waiting_bytes : Log → ℕ
+waiting_bytes log = log.buffered
+
+abbrev pub write_position_of : Log → Position
+write_position_of log = position log.current_file (log.forced_bytes + log.buffered)
+
+-- the log begins with the same file and has the same sizes
+abbrev pub KeepsSizes : Log → Log → Type 0
+KeepsSizes old new =
+    (first_file_of new ≡ first_file_of old) × (file_size_of new ≡ file_size_of old) × (buffer_size_of new ≡ buffer_size_of old)
+
+-- these are the sizes, in bytes, of a file's entries and of the buffer
+abbrev pub HasSizes : ℕ → ℕ → Log → Type 0
+HasSizes file_size buffer_size log = (file_size_of log ≡ file_size) × (buffer_size_of log ≡ buffer_size)
+
+-- the value says the same of its entries, positions, files and sizes
+pub record StandsStill (old new : Log) : Type 0 where
+  pub sizes : KeepsSizes old new
+  pub current : current_file_of new ≡ current_file_of old
+  pub write : write_position_of new ≡ write_position_of old
+  pub force : force_position_of new ≡ force_position_of old
+  pub waiting : unforced new ≡ unforced old
+  pub count : waiting_bytes new ≡ waiting_bytes old
+
+-- the value says that all its entries are forced, and the same of its other positions, files and sizes
+pub record IsForced (old new : Log) : Type 0 where
+  pub sizes : KeepsSizes old new
+  pub current : current_file_of new ≡ current_file_of old
+  pub write : write_position_of new ≡ write_position_of old
+  pub force : force_position_of new ≡ write_position_of old
+  pub waiting : unforced new ≡ []
+  pub count : waiting_bytes new ≡ 0
+
+-- an entry begins a new file
+abbrev pub begins_file : Log → Entry → Bool
+begins_file log e = not (nat_le (log.forced_bytes + log.buffered + length_of e) log.file_size)
+
+-- an entry forces those before it: it begins a file, or finds no room in the buffer
+abbrev pub forces_earlier : Log → Entry → Bool
+forces_earlier log e = begins_file log e || nat_lt (length log.buffer.items) (log.buffered + length_of e)
+
+-- where an entry gets its position, if there is any
+abbrev pub place_for : Log → Entry → Option Position
+place_for log e = position_of (write_position_of log) (length_of e) (file_size_of log)
+
+-- the force position once an entry is added
+abbrev pub force_position_with : Log → Entry → Position
+force_position_with log e = if forces_earlier log e then write_position_of log else force_position_of log
+
+-- the buffer and the file have room for an entry
+abbrev pub HasRoomFor : Entry → Log → Type 0
+HasRoomFor e log =
+    (log.buffered + length_of e ≤ length log.buffer.items) × (log.forced_bytes + log.buffered + length_of e ≤ log.file_size)
+
+-- an entry is put into the buffer
+pub record Puts (e : Entry) (old new : Log) : Type 0 where
+  pub entry : IsEntry e
+  pub used : new.buffered ≡ old.buffered + length_of e
+  pub bytes : take new.buffered new.buffer.items ≡ take old.buffered old.buffer.items ++ entry_bytes e
+  pub first : new.first_file ≡ old.first_file
+  pub number : new.current_file ≡ old.current_file
+  pub file : new.file ≡ old.file
+  pub base : new.forced_bytes ≡ old.forced_bytes
+  pub force : new.force ≡ old.force
+  pub file_size : new.file_size ≡ old.file_size
+  pub room : length new.buffer.items ≡ length old.buffer.items
+
+-- what is found, once there is room for an entry
+abbrev pub room_made : Log → Entry → Result LogContents LogRefusal → Result LogContents LogRefusal
+room_made log e r =
+    if begins_file log e then switched (with_more (unforced log) r)
+    else (if nat_lt (length log.buffer.items) (log.buffered + length_of e) then with_more (unforced log) r else r)
+
+-- The log's files stand as its last call left them: what is found from its first file on ends in the current one.
+pub record IsOpen (log : Log) (now : Files) (may : Name → Option (List ℕ) → Type 0) : Type 0 where
+  pub gate : IsReady log.file now may
+  pub fresh : log.file.staged ≡ 0
+  pub body : IsBody (take log.buffered log.buffer.items) (unforced log)
+  pub plain : no_switch (unforced log) ≡ true
+  pub long : total (unforced log) ≡ log.buffered
+  pub whole : IsOk (log_of log.first_file now)
+  pub end : walk_end (log_of log.first_file now) ≡ position log.current_file log.forced_bytes
+
+-- the log's files read without damage, up to the end of the current one
+abbrev pub IsWhole : Log → Files → Type 0
+IsWhole log now = IsOk (log_of log.first_file now) × (walk_end (log_of log.first_file now) ≡ position log.current_file log.forced_bytes)
+
+-- all but two files are as they were
+pub record OnlyTwo (one two : Name) (old new : Files) (may_old may_new : Name → Option (List ℕ) → Type 0) : Type 0 where
+  pub reads : (n : Name) → ¬ (n ≡ one) → ¬ (n ≡ two) → new n ≡ old n
+  pub crash : (n : Name) → ¬ (n ≡ one) → ¬ (n ≡ two) → (c : Option (List ℕ)) → may_new n c → may_old n c
+
+-- the entries that are found, with their positions
+abbrev pub entries_in : Result LogContents LogRefusal → List (Position × Entry)
+entries_in (Ok found) = found.entries
+entries_in (Err e) = []
+
+-- the entries that are forced, from the log's first file on
+abbrev pub forced_of : Log → Files → List (Position × Entry)
+forced_of log now = entries_in (log_of log.first_file now)
+
+-- all entries, from the log's first file on
+abbrev pub trail_of : Log → Files → List (Position × Entry)
+trail_of log now = entries_in (with_more (unforced log) (log_of log.first_file now))
+
+-- in every map of files that a crash may leave, the walk from the log's first file gives just what is forced
+abbrev pub CrashLeavesForced : Log → Files → (Name → Option (List ℕ) → Type 0) → Type 0
+CrashLeavesForced log now may = CrashLeavesLog log.first_file (log_of log.first_file now) may
+
+-- the walk gave these entries, without damage, to this end or to the start of the next file
+pub record Gave (r : Result LogContents LogRefusal) (es : List (Position × Entry)) (at : Position) : Type 0 where
+  pub whole : IsOk r
+  pub entries : entries_in r ≡ es
+  pub end : (walk_end r ≡ at) ⊎ (walk_end r ≡ position (at.file + 1) 0)
+
+-- in every map of files that a crash may leave, the walk from the log's first file gives what is forced, or all entries
+abbrev pub CrashLeavesForcedOrAll : Log → Files → (Name → Option (List ℕ) → Type 0) → Type 0
+CrashLeavesForcedOrAll log now may = (files : Files) → MayLeave may files → (log_of log.first_file files ≡ log_of log.first_file now) ⊎ Gave (log_of log.first_file files) (trail_of log now) (write_position_of log)
+
+-- a file is as it was, and a crash leaves of it only what it could leave before
+pub record IsUntouched (name : Name) (old new : Files) (may_old may_new : Name → Option (List ℕ) → Type 0) : Type 0 where
+  pub reads : new name ≡ old name
+  pub crash : (c : Option (List ℕ)) → may_new name c → may_old name c
+
+-- in every map of files that a crash may leave, the walk gives all entries
+abbrev pub CrashLeavesAll : Log → Files → (Name → Option (List ℕ) → Type 0) → Type 0
+CrashLeavesAll log now may = (files : Files) → MayLeave may files → Gave (log_of log.first_file files) (trail_of log now) (write_position_of log)
+
+-- the file behind the current one is untouched; or all entries are forced, where a crash before could leave just the forced ones
+abbrev pub ForcedBeforeNextFile : Log → Files → Files → (Name → Option (List ℕ) → Type 0) → (Name → Option (List ℕ) → Type 0) → Type 0
+ForcedBeforeNextFile log old new may_old may_new = IsUntouched (LogFile (log.current_file + 1)) old new may_old may_new ⊎ (CrashLeavesForced log old may_old → CrashLeavesAll log old may_new)
+
+-- the log files that are there: those that were, and one with this number
+abbrev pub AddsFile : ℕ → Files → Files → Type 0
+AddsFile n old new = (k : ℕ) → is_some (new (LogFile k)) ≡ (if nat_eq k n then true else is_some (old (LogFile k)))
+
+-- the same log files are there
+abbrev pub AddsNone : Files → Files → Type 0
+AddsNone old new = (k : ℕ) → is_some (new (LogFile k)) ≡ is_some (old (LogFile k))
+
+-- the name of a log file with a number in this range
+abbrev pub is_between : ℕ → ℕ → Name → Bool
+is_between from end (LogFile k) = nat_le from k && nat_lt k end
+is_between from end (Ds k) = false
+is_between from end (SetImage k) = false
+is_between from end (SetLog k) = false
+
+-- all files but those of a range are as they were
+pub record OnlyBetween (from end : ℕ) (old new : Files) (may_old may_new : Name → Option (List ℕ) → Type 0) : Type 0 where
+  pub reads : (n : Name) → is_between from end n ≡ false → new n ≡ old n
+  pub crash : (n : Name) → is_between from end n ≡ false → (c : Option (List ℕ)) → may_new n c → may_old n c
+
+-- Of the log files of a range those below some number are gone, and those above it are as they were.
+pub record GoneInOrder (from end : ℕ) (old new : Files) : Type 0 where
+  pub at : ℕ
+  pub gone : (k : ℕ) → from ≤ k → k < at → k < end → new (LogFile k) ≡ None
+  pub above : (k : ℕ) → at < k → k < end → new (LogFile k) ≡ old (LogFile k)

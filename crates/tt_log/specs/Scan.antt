@@ -1,0 +1,100 @@
+-- The entries that a scan still has to give.
+use Rattle.std.specs.Prelude.{◌≡◌, ◌<◌, ◌≤◌, ◌+◌, ◌-◌, ◌*◌, ℕ, List, [], ◌∷◌, length, drop, filter, nat_le, true, false, if◌then◌else◌, Option, Some, None, Result, Ok, Err, IsOk}
+use Rattle.tt_disk.specs.Calls.{KeepsFiles}
+use Rattle.tt_disk.specs.declared.volume.Volume.{Ghosts}
+use Rattle.tt_disk.specs.declared.volume.Name.TheVariants.{Log as LogFile}
+use Rattle.tt_value.specs.declared.position.Position.{Position}
+use Rattle.tt_record.specs.declared.entry.Entry.{Entry}
+use Rattle.tt_record.specs.Read.{entries_of}
+use Rattle.tt_record.specs.Place.{position}
+use Rattle.tt_log.specs.Lengths.{total}
+use Rattle.tt_log.specs.declared.log.Log.{Log}
+use Rattle.tt_log.specs.declared.scan.Scan.{Scan}
+use Rattle.tt_log.specs.declared.refusal.LogRefusal.{LogRefusal}
+use Rattle.tt_log.specs.Walk.{Files, LogContents, Part, file_read, placed, in_front, log_of, is_from}
+use Rattle.tt_log.specs.Batch.{rest_read, IsHeaded}
+use Rattle.tt_log.specs.Log.{or_none, entries_in, walk_end}
+use Rattle.tt_log.specs.Limits.{LOG_FILES_END}
+use Rattle.tt_gate.specs.Limits.{FIRST_GATE, LONGEST_FILE}
+
+-- the entries of a body that was read
+abbrev pub waiting : Scan → List Entry
+waiting scan = or_none (entries_of (drop scan.at scan.body.items))
+
+-- how many bytes of entries stand before the gate
+abbrev pub gate_offset : Scan → ℕ
+gate_offset scan = scan.offset + (length scan.body.items - scan.at)
+
+-- what the file says behind that body
+abbrev pub part_left : Scan → Files → Part
+part_left scan files = if scan.begun then rest_read scan.file scan.gate (gate_offset scan) (files (LogFile scan.file)) else file_read scan.file (files (LogFile scan.file))
+
+-- the rest of a file's entries, behind so many bytes of others, and those of the files behind it
+abbrev pub joined_from : ℕ → ℕ → Part → Result LogContents LogRefusal → Result LogContents LogRefusal
+joined_from n offset (Ok part) more = if part.1 then in_front (placed n offset part.0) more else Ok (record { entries = placed n offset part.0; end = position n (offset + total part.0) })
+joined_from n offset (Err e) more = Err e
+
+-- all entries that stand ahead
+unfoldable pub ahead : Scan → Files → Result LogContents LogRefusal
+ahead scan files = in_front (placed scan.file scan.offset (waiting scan)) (joined_from scan.file (gate_offset scan) (part_left scan files) (log_of (scan.file + 1) files))
+
+-- The scan's file stands as its last call found it, and the log can be read from there on.
+pub record IsGoing (scan : Scan) (files : Files) : Type 0 where
+  pub headed : scan.begun ≡ true → IsHeaded scan.file (files (LogFile scan.file))
+  pub unread : scan.begun ≡ false → (scan.gate ≡ FIRST_GATE) × (gate_offset scan ≡ 0)
+  pub body : entries_of (drop scan.at scan.body.items) ≡ Some (waiting scan)
+  pub long : total (waiting scan) ≡ length scan.body.items - scan.at
+  pub whole : IsOk (ahead scan files)
+
+-- a step of a scan, which goes on with the same entries ahead, and changes no file
+pub record StepsOn {V : Type 0} (g : Ghosts V) (old new : Scan) (before after : V) : Type 0 where
+  pub going : g.told → IsGoing new (g.now after)
+  pub same : g.told → ahead new (g.now after) ≡ ahead old (g.now before)
+  pub from : new.from ≡ old.from
+  pub file : new.file < LOG_FILES_END
+  pub keeps : KeepsFiles g before after
+
+-- no entry stands ahead
+abbrev pub EndsOn : {V : Type 0} → Ghosts V → Scan → V → Type 0
+EndsOn g scan volume = g.told → entries_in (ahead scan (g.now volume)) ≡ []
+
+-- the body that was read has another entry
+abbrev pub HasMore : Scan → Type 0
+HasMore scan = scan.at < length scan.body.items
+
+-- all entries of the body that was read are given
+abbrev pub IsUsedUp : Scan → Type 0
+IsUsedUp scan = scan.at ≡ length scan.body.items
+
+-- the scan goes on in a later file
+abbrev pub Switches : Scan → Scan → Type 0
+Switches old new = IsUsedUp new × (old.file < new.file)
+
+-- A scan that isn't past the log's current file goes on, and that file is the last one ahead.
+abbrev pub IsScanning : Scan → Log → Files → Type 0
+IsScanning scan log files = scan.file ≤ log.current_file → IsGoing scan files × ((walk_end (ahead scan files)).file ≡ log.current_file)
+
+-- those ahead that don't stand before the scan's first position
+abbrev pub from_here : Scan → Files → List (Position × Entry)
+from_here scan files = filter (is_from scan.from) (entries_in (ahead scan files))
+
+-- the entries that a scan of this log still has to give
+abbrev pub left : Scan → Log → Files → List (Position × Entry)
+left scan log files = if nat_le scan.file log.current_file then from_here scan files else []
+
+-- what was given, and what is left
+abbrev pub given : Option (Position × Entry) → List (Position × Entry) → List (Position × Entry)
+given None rest = []
+given (Some p) rest = p ∷ rest
+
+abbrev pub with_given : Option (Position × Entry) → List (Position × Entry) → List (Position × Entry)
+with_given None rest = rest
+with_given (Some p) rest = p ∷ rest
+
+-- a bound on how much can still be read
+abbrev pub most_left : Scan → ℕ
+most_left scan = (LOG_FILES_END - scan.file) * LONGEST_FILE + (LONGEST_FILE - scan.gate) + (length scan.body.items - scan.at)
+
+-- less is left to read
+abbrev pub HasLess : Scan → Scan → Type 0
+HasLess old new = most_left new < most_left old
