@@ -14,8 +14,6 @@ use Rattle.tt_value.specs.declared.reply.Reply.{Reply}
 use Rattle.tt_value.specs.declared.reply.Reply.TheVariants.{Done}
 use Rattle.tt_parse.specs.declared.command.Command.{Command}
 use Rattle.tt_parse.specs.declared.command.Command.TheVariants.{CreateTable, DropTable, CreateIndex, DropIndex, Insert, Update, Delete, Select, Commit as CommitLine, Rollback, DurableCommit, Flush, Ckpt, CkptBlocking, LogHolds, Bookmark, Backup as BackupLine, XlaCreate, XlaDelete, XlaSubscribe, XlaUnsubscribe, XlaOpen, XlaNext, XlaAcknowledge, XlaClose}
-use Rattle.tt_parse.specs.declared.command.BackupKind.{BackupKind}
-use Rattle.tt_parse.specs.declared.command.BackupKind.TheVariants.{Full, FullEnable, Incremental, IncrOrFull, Stop}
 use Rattle.tt_record.specs.declared.entry.Entry.TheVariants.{Commit}
 use Rattle.tt_set.specs.declared.settings.Settings.{Settings}
 use Rattle.tt_model.specs.Live.{numbers_from}
@@ -25,12 +23,12 @@ use Rattle.tt_model.specs.Sets.{Readable, SetStanding}
 use Rattle.tt_model.specs.Tables.{Table, Index, PlacedRow, by_number, by_text, with_number_at, with_text_at, text_at, table_named, index_named}
 use Rattle.tt_model.specs.State.{State, Reader, Underway, live_in, next, cells_of, catalog, write_position, with_entry, with_edits, all_forced, reversals}
 use Rattle.tt_model.specs.declared.definition.CellEdit.{CellEdit}
-use Rattle.tt_model.specs.Meaning.{Meant, Makes, Refuses, Gives, unless, first_of}
-use Rattle.tt_model.specs.System.{system_rows, in_transaction, deletes, bookmark, reader_on, reads, subscription, delete_bookmark, unsubscribe, acknowledge, acknowledge_in, bookmark_values, rewrites, drop_table, drop_index, meant_by_delete_bookmark, meant_by_unsubscribe, meant_by_acknowledge, meant_by_drop_table, meant_by_drop_index}
-use Rattle.tt_model.specs.Backups.{kind_done, row_of_set, set_edit, full_now, extended_now, with_set, backup_refusal}
+use Rattle.tt_model.specs.Meaning.{Meant, Makes, Refuses, unless, first_of, meant_by_select}
+use Rattle.tt_model.specs.System.{system_rows, in_transaction, deletes, bookmark, reader_on, reads, subscription, delete_bookmark, unsubscribe, acknowledge, bookmark_values, rewrites, drop_table, drop_index, meant_by_delete_bookmark, meant_by_unsubscribe, meant_by_acknowledge, meant_by_drop_table, meant_by_drop_index, reader_at, reader_row}
+use Rattle.tt_model.specs.Backups.{row_of_set, set_edit, full_now, extended_now, with_set, backup_refusal, SetWork, MakesSet, ContinuesSet, EndsSet, set_work}
 use Rattle.tt_model.specs.Sound.{IsSound, MayEdit}
 use Rattle.tt_model.specs.Checkpoint.{begin_checkpoint, copied, with_copies, with_all_copies, complete_where_due, completed, with_completion}
-use Rattle.tt_model.specs.Step.{Step, Answers, WantsMemory, line, unless_refused, forced_where, statement, made, made_in, number_for, no_number_for, no_position, no_system_position, edit_length, session_ended, is_durable, commit_of, rollback_of, rolled_back, rollback_lengths, end_length, system, system_done, open_at, given, closed, refused, kept_read, next_read_of, with_reader, backed_up, backup_position, backup_kind, checkpoint_open, no_checkpoint_number, least_open, begun_reply, completion_after, no_skip, given_to}
+use Rattle.tt_model.specs.Step.{Step, Answers, WantsMemory, line, unless_refused, forced_where, statement, made, made_in, number_for, no_number_for, no_position, no_system_position, edit_length, session_ended, is_durable, commit_of, rollback_of, rolled_back, rollback_lengths, end_length, system, system_done, open_at, given, closed, refused, kept_read, next_read_of, with_reader, backed_up, backup_position, checkpoint_open, no_checkpoint_number, least_open, begun_reply, completion_after, no_skip, given_to, backup_line}
 use Rattle.tt_model.specs.Run.{Line, Run, begun}
 use Rattle.tt_model.specs.WholeRuns.{IsSession, AreOfSessions, ReadersHaveBookmarks, BookmarksStay}
 use Rattle.tt_model.proofs.AppendLemmas.{cells-Abort}
@@ -41,7 +39,7 @@ use Rattle.tt_model.proofs.StatementLemmas.{unless-makes, makes_same, each_none}
 use Rattle.tt_model.proofs.SoundLines.{sound-with_copies}
 use Rattle.tt_model.proofs.StepLemmas.{sound-step}
 use Rattle.tt_model.proofs.SystemLemmas.{of_rows-MayEdit}
-use Rattle.tt_model.proofs.LineLemmas.{create_table-new, create_index_new, create_bookmark-new, subscribe_new}
+use Rattle.tt_model.proofs.LineLemmas.{create_table-new, create_index_new, create_bookmark-new, subscribe_new, selected-has}
 use Rattle.tt_model.proofs.SystemLines.{AreGood, refuses_none, set-lies, sound-with_set, rewrite-good, rows-good, one_row, drop_table-good, drop_index-good, delete_bookmark-good, unsubscribe-good, acknowledge-good}
 use Rattle.tt_model.proofs.GrowLemmas.{readers-command, readers-memory, readers-with_copies, readers-completion_after}
 use Rattle.tt_model.proofs.BookmarkLemmas.{is_bookmark, is_named, HasIn, AllKeep, find-passes, there-in, bookmark-in, in-bookmark, keeps-Commit, cells-with_edits, cells_forced, keeps-system_done}
@@ -90,11 +88,11 @@ unsubscribe_keep name session s other (Some t) edits h = keep_or_refused name _ 
 
 -- An acknowledgement writes the row of its bookmark anew.
 acknowledged_keep : (name : List ℕ) (session : ℕ) (s : State) (r : Reader) (o : Option PlacedRow) (edits : List CellEdit) → bookmark r.bookmark s ≡ o →
-    acknowledge_in session s r o ≡ Makes edits → AllKeep name edits
+    acknowledge session s (reader_at r o) ≡ Makes edits → AllKeep name edits
 acknowledged_keep name session s r None edits e h = absurd (refuses_none _ _ edits h)
 acknowledged_keep name session s r (Some at) edits e h =
     let own : bytes_eq (text_at 0 at) r.bookmark ≡ true = find-passes (is_named r.bookmark) (system_rows 4 s) at e in
-    keep_or_refused name (in_transaction session s) (rewrites 4 at (bookmark_values r.bookmark r.place) ∷ []) edits (
+    keep_or_refused name (first_of (in_transaction session s ∷ [])) (rewrites 4 at (bookmark_values r.bookmark r.place) ∷ []) edits (
       (λ y.
           let named : bytes_eq (text_at 0 at) name ≡ true = (and_parts true (bytes_eq (text_at 0 at) name) y).1 in
           let same : r.bookmark ≡ name = sym ((bytes_eq-Decides (text_at 0 at) r.bookmark).0 own) ∙ (bytes_eq-Decides (text_at 0 at) name).0 named in
@@ -102,7 +100,7 @@ acknowledged_keep name session s r (Some at) edits e h =
       tt,
     ) h
 
-acknowledge_keep : (name : List ℕ) (session : ℕ) (s : State) (o : Option Reader) (edits : List CellEdit) → acknowledge session s o ≡ Makes edits → AllKeep name edits
+acknowledge_keep : (name : List ℕ) (session : ℕ) (s : State) (o : Option Reader) (edits : List CellEdit) → acknowledge session s (reader_row s o) ≡ Makes edits → AllKeep name edits
 acknowledge_keep name session s None edits h = absurd (refuses_none _ _ edits h)
 acknowledge_keep name session s (Some r) edits h = acknowledged_keep name session s r (bookmark r.bookmark s) edits refl h
 
@@ -165,7 +163,6 @@ keeps-unless name (Some r) reply after s i j = i
 system-keeps : (name : List ℕ) (m : Meant) (s : State) → IsSound s → ((edits : List CellEdit) → m ≡ Makes edits → MayEdit (next s) edits s × AllKeep name edits) →
     HasIn name (cells_of s) → HasIn name (cells_of ((system m s).1))
 system-keeps name (Refuses r) s h f i = i
-system-keeps name (Gives rows) s h f i = i
 system-keeps name (Makes edits) s h f i =
     keeps-unless name (no_system_position edits s) Done (system_done edits s) s i (keeps-system_done name edits s h ((f edits refl).0) ((f edits refl).1) i)
 
@@ -201,16 +198,15 @@ stop_keeps name set s (Some r) e h i =
     keeps-system_done name (map (deletes 6) (r ∷ [])) s h (may_good s (map (deletes 6) (r ∷ [])) h (rows-good s 6 (r ∷ []) (lit< tt) (one_row 6 s r (set-lies set s r e)) tt))
     (deletes-keep name 6 (r ∷ []) refl) i
 
-backed_up_keeps : (name : List ℕ) (set : ℕ) (kind : BackupKind) (s : State) → IsSound s → HasIn name (cells_of s) → HasIn name (cells_of ((backed_up set kind s).1))
-backed_up_keeps name set Full s h i = with_set_keeps name set (Some (Readable (full_now s))) s i
-backed_up_keeps name set FullEnable s h i = set_keeps name set (Some (Readable (full_now s))) s h i
-backed_up_keeps name set Incremental s h i = set_keeps name set (extended_now (s.sets set) s) s h i
-backed_up_keeps name set Stop s h i = stop_keeps name set s (row_of_set set s) refl h i
-backed_up_keeps name set IncrOrFull s h i = i
+backed_up_keeps : (name : List ℕ) (set : ℕ) (work : SetWork) (s : State) → IsSound s → HasIn name (cells_of s) → HasIn name (cells_of ((backed_up set work s).1))
+backed_up_keeps name set (MakesSet false) s h i = with_set_keeps name set (Some (Readable (full_now s))) s i
+backed_up_keeps name set (MakesSet true) s h i = set_keeps name set (Some (Readable (full_now s))) s h i
+backed_up_keeps name set ContinuesSet s h i = set_keeps name set (extended_now (s.sets set) s) s h i
+backed_up_keeps name set EndsSet s h i = stop_keeps name set s (row_of_set set s) refl h i
 
-backup_keeps : (name : List ℕ) (session set : ℕ) (kind : BackupKind) (s : State) → IsSound s → HasIn name (cells_of s) → HasIn name (cells_of ((backup_kind session set kind s).1))
-backup_keeps name session set kind s h i =
-    keeps-unless name (option_or (backup_refusal session s set kind) (backup_position set kind s)) ((backed_up set kind s).0) ((backed_up set kind s).1) s i (backed_up_keeps name set kind s h i)
+backup_keeps : (name : List ℕ) (session set : ℕ) (work : SetWork) (s : State) → IsSound s → HasIn name (cells_of s) → HasIn name (cells_of ((backup_line session set work s).1))
+backup_keeps name session set work s h i =
+    keeps-unless name (option_or (backup_refusal session s set work) (backup_position set work s)) ((backed_up set work s).0) ((backed_up set work s).1) s i (backed_up_keeps name set work s h i)
 
 -- ---- statements, commits and rollbacks
 
@@ -223,7 +219,6 @@ made_keeps name session (e ∷ es) s i =
 
 statement_keeps : (name : List ℕ) (session : ℕ) (m : Meant) (s : State) → HasIn name (cells_of s) → HasIn name (cells_of ((statement session m s).1))
 statement_keeps name session (Refuses r) s i = i
-statement_keeps name session (Gives rows) s i = i
 statement_keeps name session (Makes edits) s i = made_keeps name session edits s i
 
 commit_keeps : (name : List ℕ) (session : ℕ) (o : Option ℕ) (s : State) → IsSound s → s.own session ≡ o → HasIn name (cells_of s) → HasIn name (cells_of ((commit_of session o s).1))
@@ -318,7 +313,7 @@ unfolding line meant_by_drop_table meant_by_drop_index meant_by_delete_bookmark 
 line_keeps name session (Insert table values) s h b i = statement_keeps name session _ s i
 line_keeps name session (Update table sets cond) s h b i = statement_keeps name session _ s i
 line_keeps name session (Delete table cond) s h b i = statement_keeps name session _ s i
-line_keeps name session (Select table items cond order) s h b i = statement_keeps name session _ s i
+line_keeps name session (Select table items cond order) s h b i = selected-has (λ (after : State). HasIn name (cells_of after)) (meant_by_select session s table items cond order) s i
 line_keeps name session CommitLine s h b i = commit_keeps name session (s.own session) s h refl i
 line_keeps name session Rollback s h b i = rollback_keeps name session (s.own session) s i
 line_keeps name session DurableCommit s h b i = i
@@ -346,7 +341,7 @@ line_keeps name session XlaAcknowledge s h b i =
 line_keeps name session (XlaOpen x) s h b i = subst (HasIn name) (sym (cells_opened session x s (is_some (s.reader session)))) i
 line_keeps name session (XlaNext count) s h b i = subst (HasIn name) (sym (cells_given session (s.reader session) count s)) i
 line_keeps name session XlaClose s h b i = subst (HasIn name) (sym (cells_closed session (s.reader session) s)) i
-line_keeps name session (BackupLine set kind) s h b i = backup_keeps name session set (kind_done kind set s) s h i
+line_keeps name session (BackupLine set kind) s h b i = backup_keeps name session set (set_work kind set s) s h i
 line_keeps name session Ckpt s h b i =
     keeps-unless name (option_or (checkpoint_open s) (no_checkpoint_number s)) (begun_reply s) (begin_checkpoint s) s i (subst (HasIn name) (sym (cells_begin s)) i)
 line_keeps name session CkptBlocking s h b i =

@@ -1,6 +1,6 @@
 -- A line does the same before and behind the copies of its round: it looks at neither the stale pages nor the pages left.
 use Rattle.std.proofs.Common.{◌≡◌, ℕ, Bool, true, false, cond, List, [], ◌∷◌, map, take, drop, length, Option, Some, None, refl, sym, ap, ap₂, subst, true≢false}
-use Rattle.std.specs.Prelude.{option_map, is_some}
+use Rattle.std.specs.Prelude.{option_map, is_some, Result, Ok, Err}
 use Rattle.std.specs.Option.{option_or}
 use Rattle.tt_value.specs.declared.refusal.Refusal.{Refusal}
 use Rattle.tt_value.specs.declared.refusal.Refusal.TheVariants.{BookmarkBusy, CkptOpen}
@@ -9,7 +9,6 @@ use Rattle.tt_value.specs.declared.reply.Reply.TheVariants.{Done, Changed, Holds
 use Rattle.tt_parse.specs.declared.command.Command.{Command}
 use Rattle.tt_parse.specs.declared.command.Command.TheVariants.{CreateTable, DropTable, CreateIndex, DropIndex, Insert, Update, Delete, Select, Commit as CommitLine, Rollback, DurableCommit, Flush, Ckpt, CkptBlocking, LogHolds, Bookmark, Backup as BackupLine, XlaCreate, XlaDelete, XlaSubscribe, XlaUnsubscribe, XlaOpen, XlaNext, XlaAcknowledge, XlaClose}
 use Rattle.tt_parse.specs.declared.command.BackupKind.{BackupKind}
-use Rattle.tt_parse.specs.declared.command.BackupKind.TheVariants.{Full, FullEnable, Incremental, IncrOrFull, Stop}
 use Rattle.tt_record.specs.declared.entry.Entry.{Entry}
 use Rattle.tt_record.specs.declared.entry.Entry.TheVariants.{Change, Commit, Abort}
 use Rattle.tt_model.specs.Tables.{PlacedRow}
@@ -17,16 +16,17 @@ use Rattle.tt_model.specs.Sets.{SetStanding, Readable, Unreadable}
 use Rattle.tt_model.specs.State.{State, Underway, Reader, all_forced, at_one, force_position, holds, live_in, next, place_for, reversals, stale_after, with_edit, with_edits, with_entry, write_position}
 use Rattle.tt_model.specs.declared.definition.CellEdit.{CellEdit}
 use Rattle.tt_model.specs.Checkpoint.{begin_checkpoint, copied, with_all_copies, with_completion, with_copies, without_pages}
-use Rattle.tt_model.specs.Meaning.{Meant, Refuses, Gives, Makes}
+use Rattle.tt_model.specs.Meaning.{Meant, Refuses, Makes, meant_by_select}
 use Rattle.tt_model.specs.System.{bookmark, deletes, reader_on}
-use Rattle.tt_model.specs.Backups.{backup_refusal, extended_now, full_now, kind_done, row_of_set, set_edit, with_set}
+use Rattle.tt_model.specs.Backups.{backup_refusal, extended_now, full_now, row_of_set, set_edit, with_set, SetWork, MakesSet, ContinuesSet, EndsSet, set_work}
 use Rattle.tt_model.specs.Holds.{least_hold_of}
-use Rattle.tt_model.specs.Step.{Answered, backed_up, backup_kind, backup_position, begun_reply, blocking_line, checkpoint_line, closed, commit_of, edit_length, end_length, forced_where, given, given_to, next_read_of, no_skip, is_durable, least_open, line, made, made_in, no_checkpoint_number, no_number_for, no_position, no_system_position, number_for, open_at, refused, rollback_lengths, rollback_of, rolled_back, session_ended, statement, system, system_done, unless_refused}
+use Rattle.tt_model.specs.Step.{Answered, backed_up, backup_position, begun_reply, blocking_line, checkpoint_line, closed, commit_of, edit_length, end_length, forced_where, given, given_to, next_read_of, no_skip, is_durable, least_open, line, made, made_in, no_checkpoint_number, no_number_for, no_position, no_system_position, number_for, open_at, refused, rollback_lengths, rollback_of, rolled_back, session_ended, statement, system, system_done, unless_refused, backup_line, selected}
 use Rattle.tt_model.specs.StepLaws.{CopiesAndLinesAreApart, DifferInCopies}
 use Rattle.tt_model.specs.Meant.{meant}
 use Rattle.tt_model.proofs.LineRelation.{is_checkpoint}
 use Rattle.tt_model.proofs.WorksApart.{works-apart}
 use Rattle.tt_model.proofs.MeantApart.{aside, backup_place-aside, kind-aside, meant-aside, refusal-aside}
+use Rattle.tt_value.specs.declared.value.Row.{Row}
 
 -- Some stale pages, and this checkpoint under way, stand in the place of those of a state.
 abbrev IsAside : Option Underway → State → State → Type 0
@@ -96,7 +96,6 @@ module _ (u : Option Underway) where
 
   aside_statement : (session : ℕ) (m : Meant) (stale : ℕ → ℕ → Bool) (s : State) → AnswersAside u (statement session m s) (statement session m (aside stale u s))
   aside_statement session (Refuses r) stale s = (refl, (stale, refl))
-  aside_statement session (Gives rows) stale s = (refl, (stale, refl))
   aside_statement session (Makes edits) stale s = aside_made session edits stale s
 
   aside_settled : (session : ℕ) (s other : State) → IsAside u s other → IsAside u (session_ended session s) (session_ended session other)
@@ -132,7 +131,6 @@ module _ (u : Option Underway) where
 
   aside_system : (m : Meant) (stale : ℕ → ℕ → Bool) (s : State) → AnswersAside u (system m s) (system m (aside stale u s))
   aside_system (Refuses r) stale s = (refl, (stale, refl))
-  aside_system (Gives rows) stale s = (refl, (stale, refl))
   aside_system (Makes edits) stale s = aside_unless (no_system_position edits s) Done (system_done edits s) (system_done edits (aside stale u s)) s stale (aside_system_done edits stale s)
 
   aside_open : (session : ℕ) (name : List ℕ) (o : Option PlacedRow) (stale : ℕ → ℕ → Bool) (s : State) → AnswersAside u (open_at session name o s) (open_at session name o (aside stale u s))
@@ -181,31 +179,34 @@ module _ (u : Option Underway) where
   aside_extended set (Some (Readable b)) edits stale s = aside_set set (extended_now (Some (Readable b)) s) edits stale s
   aside_extended set (Some Unreadable) edits stale s = aside_set set (Some Unreadable) edits stale s
 
-  aside_backed_up : (set : ℕ) (kind : BackupKind) (stale : ℕ → ℕ → Bool) (s : State) → AnswersAside u (backed_up set kind s) (backed_up set kind (aside stale u s))
-  aside_backed_up set Full stale s = (refl, aside_with_set set (Some (Readable (full_now s))) stale s)
-  aside_backed_up set FullEnable stale s = (refl, aside_set set (Some (Readable (full_now s))) (set_edit (row_of_set set s) set (write_position s) ∷ []) stale s)
-  aside_backed_up set Incremental stale s = (refl, aside_extended set (s.sets set) (set_edit (row_of_set set s) set (write_position s) ∷ []) stale s)
-  aside_backed_up set Stop stale s = (refl, aside_stop (row_of_set set s) stale s)
-  aside_backed_up set IncrOrFull stale s = (refl, (stale, refl))
+  aside_backed_up : (set : ℕ) (work : SetWork) (stale : ℕ → ℕ → Bool) (s : State) → AnswersAside u (backed_up set work s) (backed_up set work (aside stale u s))
+  aside_backed_up set (MakesSet false) stale s = (refl, aside_with_set set (Some (Readable (full_now s))) stale s)
+  aside_backed_up set (MakesSet true) stale s = (refl, aside_set set (Some (Readable (full_now s))) (set_edit (row_of_set set s) set (write_position s) ∷ []) stale s)
+  aside_backed_up set ContinuesSet stale s = (refl, aside_extended set (s.sets set) (set_edit (row_of_set set s) set (write_position s) ∷ []) stale s)
+  aside_backed_up set EndsSet stale s = (refl, aside_stop (row_of_set set s) stale s)
 
   aside_answered : (o : Option Refusal) (a other : Answered) (stale : ℕ → ℕ → Bool) (s : State) → AnswersAside u a other → AnswersAside u (unless_refused o a s) (unless_refused o other (aside stale u s))
   aside_answered None a other stale s h = h
   aside_answered (Some r) a other stale s h = (refl, (stale, refl))
 
-  aside_backup_kind : (session set : ℕ) (kind : BackupKind) (stale : ℕ → ℕ → Bool) (s : State) → AnswersAside u (backup_kind session set kind s) (backup_kind session set kind (aside stale u s))
-  aside_backup_kind session set kind stale s =
-      let is : option_or (backup_refusal session s set kind) (backup_position set kind s) ≡ option_or (backup_refusal session (aside stale u s) set kind) (backup_position set kind (aside stale u s))
-      = sym (ap₂ option_or (refusal-aside session set kind stale u s) (backup_place-aside set kind stale u s)) in
-      subst (λ o. AnswersAside u (backup_kind session set kind s) (unless_refused o (backed_up set kind (aside stale u s)) (aside stale u s))) is
-      (aside_answered (option_or (backup_refusal session s set kind) (backup_position set kind s)) (backed_up set kind s) (backed_up set kind (aside stale u s)) stale s (aside_backed_up set kind stale s))
+  aside_backup_line : (session set : ℕ) (work : SetWork) (stale : ℕ → ℕ → Bool) (s : State) → AnswersAside u (backup_line session set work s) (backup_line session set work (aside stale u s))
+  aside_backup_line session set work stale s =
+      let is : option_or (backup_refusal session s set work) (backup_position set work s) ≡ option_or (backup_refusal session (aside stale u s) set work) (backup_position set work (aside stale u s))
+      = sym (ap₂ option_or (refusal-aside session set work stale u s) (backup_place-aside set work stale u s)) in
+      subst (λ o. AnswersAside u (backup_line session set work s) (unless_refused o (backed_up set work (aside stale u s)) (aside stale u s))) is
+      (aside_answered (option_or (backup_refusal session s set work) (backup_position set work s)) (backed_up set work s) (backed_up set work (aside stale u s)) stale s (aside_backed_up set work stale s))
 
   aside_backup : (session set : ℕ) (kind : BackupKind) (stale : ℕ → ℕ → Bool) (s : State) →
-      AnswersAside u (backup_kind session set (kind_done kind set s) s) (backup_kind session set (kind_done kind set (aside stale u s)) (aside stale u s))
+      AnswersAside u (backup_line session set (set_work kind set s) s) (backup_line session set (set_work kind set (aside stale u s)) (aside stale u s))
   aside_backup session set kind stale s =
-      subst (λ done. AnswersAside u (backup_kind session set (kind_done kind set s) s) (backup_kind session set done (aside stale u s))) (sym (kind-aside set kind stale u s))
-      (aside_backup_kind session set (kind_done kind set s) stale s)
+      subst (λ done. AnswersAside u (backup_line session set (set_work kind set s) s) (backup_line session set done (aside stale u s))) (sym (kind-aside set kind stale u s))
+      (aside_backup_line session set (set_work kind set s) stale s)
 
   -- ---- all lines but those of checkpoints
+
+  aside_selected : (rows : Result (List Row) Refusal) (stale : ℕ → ℕ → Bool) (s : State) → AnswersAside u (selected rows s) (selected rows (aside stale u s))
+  aside_selected (Ok rows) stale s = (refl, (stale, refl))
+  aside_selected (Err r) stale s = (refl, (stale, refl))
 
   by_statement : (session : ℕ) (command : Command) (stale : ℕ → ℕ → Bool) (s : State) →
       AnswersAside u (statement session (meant session command s) s) (statement session (meant session command (aside stale u s)) (aside stale u s))
@@ -223,7 +224,7 @@ module _ (u : Option Underway) where
   line-aside session (Insert table values) stale s n h = by_statement session (Insert table values) stale s
   line-aside session (Update table sets cond) stale s n h = by_statement session (Update table sets cond) stale s
   line-aside session (Delete table cond) stale s n h = by_statement session (Delete table cond) stale s
-  line-aside session (Select table items cond order) stale s n h = by_statement session (Select table items cond order) stale s
+  line-aside session (Select table items cond order) stale s n h = aside_selected (meant_by_select session s table items cond order) stale s
   line-aside session CommitLine stale s n h = aside_commit session (s.own session) stale s
   line-aside session Rollback stale s n h = aside_rollback session (s.own session) stale s
   line-aside session DurableCommit stale s n h = (refl, (stale, refl))

@@ -12,19 +12,17 @@ use Rattle.tt_value.specs.declared.refusal.Refusal.{Refusal}
 use Rattle.tt_value.specs.declared.refusal.Refusal.TheVariants.{LogOut}
 use Rattle.tt_value.specs.declared.value.Cell.{Cell}
 use Rattle.tt_parse.specs.declared.command.Command.TheVariants.{CreateTable, DropTable, CreateIndex, DropIndex, Insert, Update, Delete, Select, Commit as CommitLine, Rollback, DurableCommit, Flush, Ckpt, CkptBlocking, LogHolds, Bookmark, Backup as BackupLine, XlaCreate, XlaDelete, XlaSubscribe, XlaUnsubscribe, XlaOpen, XlaNext, XlaAcknowledge, XlaClose}
-use Rattle.tt_parse.specs.declared.command.BackupKind.{BackupKind}
-use Rattle.tt_parse.specs.declared.command.BackupKind.TheVariants.{Full, FullEnable, Incremental, IncrOrFull, Stop}
 use Rattle.tt_record.specs.declared.entry.Entry.{Entry}
 use Rattle.tt_record.specs.declared.entry.Entry.TheVariants.{Change, Commit, Abort}
 use Rattle.tt_record.specs.Entry.{length_of}
-use Rattle.tt_model.specs.Meaning.{Meant, Refuses, Gives, Makes, refused_if}
+use Rattle.tt_model.specs.Meaning.{Meant, Refuses, Makes, refused_if}
 use Rattle.tt_model.specs.Tables.{PlacedRow}
-use Rattle.tt_model.specs.Backups.{backup_refusal, kind_done, row_of_set, set_edit}
+use Rattle.tt_model.specs.Backups.{backup_refusal, row_of_set, set_edit, SetWork, MakesSet, ContinuesSet, EndsSet, set_work}
 use Rattle.tt_model.specs.System.{deletes}
 use Rattle.tt_model.specs.State.{State, all_forced, with_entry, lengths_fit, live_in, next, place_for, reversals, with_edit, write_position}
 use Rattle.tt_model.specs.declared.definition.CellEdit.{CellEdit}
 use Rattle.tt_model.specs.Step.{backup_position, checkpoint_open, edit_length, end_length, is_durable, least_open, no_checkpoint_number, no_number, no_number_for, no_position, no_system_position, number_for, rollback_lengths, rolled_back}
-use Rattle.tt_model.specs.Works.{AllFit, EndFits, Fits, Work, with_entries, work_behind, work_of_all, WorksFit, changes, force_where, no_work, rolled_entries, row_work, stop_works, system_work, unless_refused, work_of_blocking, work_of_commit, work_of_edits, work_of_rollback, work_of_statement, work_of_system, works_of, works_of_backup, works_of_kind, works_unless}
+use Rattle.tt_model.specs.Works.{AllFit, EndFits, Fits, Work, with_entries, work_behind, work_of_all, WorksFit, changes, force_where, no_work, rolled_entries, row_work, stop_works, system_work, unless_refused, work_of_blocking, work_of_commit, work_of_edits, work_of_rollback, work_of_statement, work_of_system, works_of, works_of_backup, works_unless, works_of_set}
 
 change_length : (t p : ℕ) (b a : Cell) → length_of (Change t p b a) ≡ length_of (Change 1 0 b a)
 unfolding big_endian
@@ -80,7 +78,6 @@ edits_fit session (e ∷ es) s =
 
 statement_fits : (session : ℕ) (m : Meant) (s : State) → Fits (work_of_statement session m s) s
 statement_fits session (Refuses r) s = refl
-statement_fits session (Gives rows) s = refl
 statement_fits session (Makes edits) s = edits_fit session edits s
 
 commit_fits : (session : ℕ) (o : Option ℕ) (s : State) → Fits (work_of_commit session o s) s
@@ -102,7 +99,6 @@ system_work_fits edits s none =
 
 system_fits : (m : Meant) (s : State) → Fits (work_of_system m s) s
 system_fits (Refuses r) s = refl
-system_fits (Gives rows) s = refl
 system_fits (Makes edits) s = unless_fits (no_system_position edits s) (system_work edits s) s (λ none. system_work_fits edits s none)
 
 -- ---- backups
@@ -115,21 +111,20 @@ stop_fit : (o : Option PlacedRow) (s : State) → (elim o as (λ x. Option Refus
 stop_fit None s none = tt
 stop_fit (Some r) s none = (system_work_fits (deletes 6 r ∷ []) s none, tt)
 
-backup_fit : (set : ℕ) (kind : BackupKind) (s : State) → backup_position set kind s ≡ None → AllFit (works_of_backup set kind s) s
-backup_fit set Full s none = (refl, tt)
-backup_fit set FullEnable s none = (refl, (row_fits set s none, tt))
-backup_fit set Incremental s none = (refl, (row_fits set s none, tt))
-backup_fit set Stop s none = stop_fit (row_of_set set s) s none
-backup_fit set IncrOrFull s none = tt
+backup_fit : (set : ℕ) (work : SetWork) (s : State) → backup_position set work s ≡ None → AllFit (works_of_set set work s) s
+backup_fit set (MakesSet false) s none = (refl, tt)
+backup_fit set (MakesSet true) s none = (refl, (row_fits set s none, tt))
+backup_fit set ContinuesSet s none = (refl, (row_fits set s none, tt))
+backup_fit set EndsSet s none = stop_fit (row_of_set set s) s none
 
 works_fit_unless : (o : Option Refusal) (ws : List Work) (s : State) → (o ≡ None → AllFit ws s) → AllFit (works_unless o ws) s
 works_fit_unless None ws s fit = fit refl
 works_fit_unless (Some r) ws s fit = tt
 
-kind_fits : (session set : ℕ) (kind : BackupKind) (s : State) → AllFit (works_of_kind session set kind s) s
-kind_fits session set kind s =
-    works_fit_unless (option_or (backup_refusal session s set kind) (backup_position set kind s)) (works_of_backup set kind s) s
-    (λ none. backup_fit set kind s (last_none (backup_refusal session s set kind) (backup_position set kind s) none))
+kind_fits : (session set : ℕ) (work : SetWork) (s : State) → AllFit (works_of_backup session set work s) s
+kind_fits session set work s =
+    works_fit_unless (option_or (backup_refusal session s set work) (backup_position set work s)) (works_of_set set work s) s
+    (λ none. backup_fit set work s (last_none (backup_refusal session s set work) (backup_position set work s) none))
 
 blocking_fits : (s : State) → Fits (work_of_blocking s) s
 blocking_fits s = unless_fits (option_or (checkpoint_open s) (option_or (least_open (live_in s)) (no_checkpoint_number s))) (force_where true) s (λ none. refl)
@@ -160,7 +155,7 @@ works_fit session XlaAcknowledge s = (system_fits _ s, tt)
 works_fit session (XlaOpen name) s = tt
 works_fit session (XlaNext count) s = tt
 works_fit session XlaClose s = tt
-works_fit session (BackupLine set kind) s = kind_fits session set (kind_done kind set s) s
+works_fit session (BackupLine set kind) s = kind_fits session set (set_work kind set s) s
 works_fit session Ckpt s = tt
 works_fit session CkptBlocking s = (blocking_fits s, tt)
 

@@ -9,7 +9,7 @@ use Rattle.tt_model.specs.Live.{is_live, touched}
 use Rattle.tt_model.specs.Tables.{row_in}
 use Rattle.tt_model.specs.State.{State, cells_of, live_in, with_entry, with_edits, reversals}
 use Rattle.tt_model.specs.declared.definition.CellEdit.{CellEdit}
-use Rattle.tt_model.specs.Meaning.{Meant, Makes, Refuses, Gives}
+use Rattle.tt_model.specs.Meaning.{Meant, Makes, Refuses}
 use Rattle.tt_model.specs.Step.{unless_refused, forced_where, statement, made, made_in, number_for, no_number_for, no_position, edit_length, session_ended, is_durable, commit_of, rollback_of, rolled_back, rollback_lengths, end_length}
 use Rattle.tt_model.specs.Sound.{whole_table, IsSound}
 use Rattle.tt_model.specs.Run.{ended, ended_one, roll_all, has_position}
@@ -35,7 +35,6 @@ cells_made session (e ∷ es) s =
 
 pub cells-statement : (session : ℕ) (m : Meant) (s : State) → cells_of ((statement session m s).1) ≡ cells_of s
 cells-statement session (Refuses r) s = refl
-cells-statement session (Gives rows) s = refl
 cells-statement session (Makes edits) s = cells_made session edits s
 
 cells_rolled : (t : ℕ) (s : State) → cells_of (rolled_back t s) ≡ cells_of s

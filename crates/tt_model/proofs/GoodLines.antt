@@ -11,9 +11,8 @@ use Rattle.tt_model.specs.Tables.{PlacedRow}
 use Rattle.tt_model.specs.State.{State, Reader, Underway, cells_of, live_in, all_forced}
 use Rattle.tt_model.specs.declared.definition.CellEdit.{CellEdit}
 use Rattle.tt_model.specs.Checkpoint.{begin_checkpoint, copied, with_copies, with_all_copies, complete_where_due, completed, with_completion}
-use Rattle.tt_model.specs.Meaning.{Meant, Makes, Refuses, Gives}
-use Rattle.tt_model.specs.System.{bookmark, bookmark_values, in_transaction, acknowledge, acknowledge_in, rewrites, meant_by_acknowledge}
-use Rattle.tt_model.specs.Backups.{kind_done}
+use Rattle.tt_model.specs.Meaning.{Meant, Makes, Refuses, meant_by_select}
+use Rattle.tt_model.specs.System.{bookmark, bookmark_values, in_transaction, acknowledge, rewrites, meant_by_acknowledge, reader_at, reader_row}
 use Rattle.tt_model.specs.Step.{Step, Answers, line, unless_refused, system, system_done, no_system_position, checkpoint_open, no_checkpoint_number, least_open, begun_reply, completion_after}
 use Rattle.tt_model.specs.Sound.{IsSound}
 use Rattle.tt_model.specs.Entries.{HasLogInRange, IsKept, IsOfGrammar, HasKeptReaders}
@@ -30,6 +29,8 @@ use Rattle.tt_model.proofs.GoodBackups.{good-backup}
 use Rattle.tt_model.proofs.GoodIndexes.{good-create_index}
 use Rattle.tt_model.proofs.GoodCreation.{good-create_table}
 use Rattle.tt_model.proofs.GoodCommits.{good-cells, cells-statement, cells-rollback, good-commit}
+use Rattle.tt_model.specs.Backups.{set_work}
+use Rattle.tt_model.proofs.LineLemmas.{selected-has}
 
 good_unless : (o : Option Refusal) (reply : Reply) (after s : State) → HasGood s → HasGood after → HasGood ((unless_refused o (reply, after) s).1)
 good_unless None reply after s g k = k
@@ -37,21 +38,20 @@ good_unless (Some r) reply after s g k = g
 
 good_system : (m : Meant) (s : State) → ((edits : List CellEdit) → m ≡ Makes edits → HasGood (system_done edits s)) → HasGood s → HasGood ((system m s).1)
 good_system (Refuses r) s f g = g
-good_system (Gives rows) s f g = g
 good_system (Makes edits) s f g = good_unless (no_system_position edits s) Done (system_done edits s) s g (f edits refl)
 
 -- ---- acknowledging
 
 acknowledged_good : (session : ℕ) (s : State) (r : Reader) (o : Option PlacedRow) (edits : List CellEdit) → IsSound s → bookmark r.bookmark s ≡ o →
-    IsKept r.place.at × IsKept r.place.hold × (r.place.skip ≤ 4294967295) → acknowledge_in session s r o ≡ Makes edits → HasGood s → HasGood (system_done edits s)
+    IsKept r.place.at × IsKept r.place.hold × (r.place.skip ≤ 4294967295) → acknowledge session s (reader_at r o) ≡ Makes edits → HasGood s → HasGood (system_done edits s)
 acknowledged_good session s r None edits h e k m g = absurd (refuses_none _ _ edits m)
 acknowledged_good session s r (Some at) edits h e k m g =
     let written : List CellEdit = rewrites 4 at (bookmark_values r.bookmark r.place) ∷ [] in
-    subst (λ (es : List CellEdit). HasGood (system_done es s)) (makes_same written edits ((unless-makes (in_transaction session s) (Makes written) edits m).1))
+    subst (λ (es : List CellEdit). HasGood (system_done es s)) (makes_same written edits ((unless-makes (first_of (in_transaction session s ∷ [])) (Makes written) edits m).1))
     (good-acknowledged s r at h e (k.0) (k.1) (k.2) g)
 
 acknowledge_good : (session : ℕ) (s : State) (o : Option Reader) (edits : List CellEdit) → IsSound s → ((r : Reader) → o ≡ Some r → IsKept r.place.at × IsKept r.place.hold × (r.place.skip ≤ 4294967295)) →
-    acknowledge session s o ≡ Makes edits → HasGood s → HasGood (system_done edits s)
+    acknowledge session s (reader_row s o) ≡ Makes edits → HasGood s → HasGood (system_done edits s)
 acknowledge_good session s None edits h k m g = absurd (refuses_none _ _ edits m)
 acknowledge_good session s (Some r) edits h k m g = acknowledged_good session s r (bookmark r.bookmark s) edits h refl (k r refl) m g
 
@@ -108,7 +108,7 @@ unfolding line
 good-line session (Insert table values) s v h log r k g = good-cells s _ h k (cells-statement session _ s) g
 good-line session (Update table sets cond) s v h log r k g = good-cells s _ h k (cells-statement session _ s) g
 good-line session (Delete table cond) s v h log r k g = good-cells s _ h k (cells-statement session _ s) g
-good-line session (Select table items cond order) s v h log r k g = good-cells s _ h k (cells-statement session _ s) g
+good-line session (Select table items cond order) s v h log r k g = selected-has HasGood (meant_by_select session s table items cond order) s g
 good-line session CommitLine s v h log r k g = good-commit session (s.own session) s refl h k g
 good-line session Rollback s v h log r k g = good-cells s _ h k (cells-rollback session (s.own session) s) g
 good-line session DurableCommit s v h log r k g = g
@@ -127,7 +127,7 @@ good-line session XlaAcknowledge s v h log r k g = good_system _ s (λ edits m. 
 good-line session (XlaOpen name) s v h log r k g = good-cells s _ h k (cells_opened session name s (is_some (s.reader session))) g
 good-line session (XlaNext count) s v h log r k g = good-cells s _ h k (cells_given session (s.reader session) count s) g
 good-line session XlaClose s v h log r k g = good-cells s _ h k (cells_closed session (s.reader session) s) g
-good-line session (BackupLine set kind) s v h log r k g = good-backup session set (kind_done kind set s) s h log (v.0) (v.1) g
+good-line session (BackupLine set kind) s v h log r k g = good-backup session set (set_work kind set s) s h log (v.0) (v.1) g
 good-line session Ckpt s v h log r k g =
     good-cells s _ h k (cells_unless (option_or (checkpoint_open s) (no_checkpoint_number s)) (begun_reply s) (begin_checkpoint s) s (cells_begin s)) g
 good-line session CkptBlocking s v h log r k g =

@@ -1,7 +1,7 @@
 -- What a select is answered depends on what is committed and on its session's own Changes alone.
 use Rattle.std.proofs.Common.{◌≡◌, ◌≤◌, ◌<◌, ◌+◌, inl, inr, ℕ, zero, suc, Bool, true, false, cond, nat_eq, nat_le, List, [], ◌∷◌, filter, map, Option, Some, None, refl, sym, ap, ◌∙◌, subst, arith, true≢false}
 use Rattle.std.proofs.lemmas.Bool.{cases_Bool, leb-true, leb-false, or_left, or_right, false_from_ne_true}
-use Rattle.std.specs.Prelude.{option_map}
+use Rattle.std.specs.Prelude.{option_map, Result, Ok, Err}
 use Rattle.std.specs.List.{filter_map, cons_option, list_any}
 use Rattle.tt_value.specs.declared.value.Cell.{Cell}
 use Rattle.tt_value.specs.declared.value.Cell.TheVariants.{Empty, Full}
@@ -16,19 +16,20 @@ use Rattle.tt_model.specs.Committed.{Cells, put, is_full, changed, changed_by}
 use Rattle.tt_model.specs.Live.{live, is_live, touched, in_use, view_of, numbers_from}
 use Rattle.tt_model.specs.Tables.{Table, PlacedRow, row_in, row_at, rows_of, in_order, table_of, index_of, by_number, catalog_of, table_named, Catalog}
 use Rattle.tt_model.specs.Conditions.{takes}
-use Rattle.tt_model.specs.Meaning.{Meant, Refuses, Gives, Makes, unless, select_refusal, shown, order_cmp, select_in, rows_seen, meant_by_select}
+use Rattle.tt_model.specs.Meaning.{select_refusal, shown, order_cmp, select_in, rows_seen, meant_by_select}
 use Rattle.tt_value.specs.declared.refusal.Refusal.TheVariants.{NoTable}
 use Rattle.tt_model.specs.State.{State, Underway, trail, view, cells_of, bound, catalog}
 use Rattle.tt_model.specs.declared.definition.CellEdit.{CellEdit}
 use Rattle.tt_model.specs.Sound.{IsSound}
 use Rattle.tt_model.specs.Checkpoint.{copied, with_copies}
-use Rattle.tt_model.specs.Step.{line, statement}
+use Rattle.tt_model.specs.Step.{line, selected}
 use Rattle.tt_model.specs.WholeRuns.{Made, with_change, changes_of, changes_by, LookAlike, SelectsAreIsolated}
 use Rattle.tt_model.proofs.SteadyLemmas.{changed_by-untouched}
 use Rattle.tt_model.proofs.HolderLemmas.{has_one}
 use Rattle.tt_model.proofs.SoundLemmas.{is_live-marked, touched-trail}
 use Rattle.tt_model.proofs.SoundLines.{sound-with_copies}
-use Rattle.tt_model.proofs.LineLemmas.{select_nothing}
+use Rattle.tt_value.specs.declared.value.Row.{Row}
+use Rattle.tt_value.specs.declared.refusal.Refusal.{Refusal}
 
 -- ---- a view is what is committed with the own Changes put over it
 
@@ -147,10 +148,10 @@ rows-alike session s other h k l t =
 
 -- ---- the same meaning
 
-abbrev select_from : (Table → List PlacedRow) → Items → Option Cond → List OrderItem → Option Table → Meant
-select_from seen items cond order None = Refuses NoTable
+abbrev select_from : (Table → List PlacedRow) → Items → Option Cond → List OrderItem → Option Table → Result (List Row) Refusal
+select_from seen items cond order None = Err NoTable
 select_from seen items cond order (Some t) =
-    unless (select_refusal t items cond order)
+    rows_unless (select_refusal t items cond order)
     (shown t items (in_order (order_cmp t order) (filter (λ (r : PlacedRow). takes cond t (r.1)) (seen t))))
 
 select-from : (session : ℕ) (s : State) (items : Items) (cond : Option Cond) (order : List OrderItem) (o : Option Table) →
@@ -169,22 +170,16 @@ select-alike session table items cond order s other h k l =
     ∙ (ap (λ (c : Catalog). select_from seen_other items cond order (table_named table c)) (catalog-alike session s other h k l)
     ∙ sym (select-from session other items cond order (table_named table (catalog other)))))
 
-same_reply : (session : ℕ) (m : Meant) (s other : State) → ((edits : List CellEdit) → m ≡ Makes edits → ⊥) → (statement session m s).0 ≡ (statement session m other).0
-same_reply session (Refuses r) s other n = refl
-same_reply session (Gives rows) s other n = refl
-same_reply session (Makes edits) s other n = absurd (n edits refl)
-
-meant_nothing : (session : ℕ) (table : List ℕ) (items : Items) (cond : Option Cond) (order : List OrderItem) (s : State) (edits : List CellEdit) →
-    meant_by_select session s table items cond order ≡ Makes edits → ⊥
-unfolding meant_by_select
-meant_nothing session table items cond order s edits m = select_nothing session s items cond order (table_named table (catalog s)) edits m
+same_reply : (rows : Result (List Row) Refusal) (s other : State) → (selected rows s).0 ≡ (selected rows other).0
+same_reply (Ok rows) s other = refl
+same_reply (Err r) s other = refl
 
 answer-alike : (session : ℕ) (table : List ℕ) (items : Items) (cond : Option Cond) (order : List OrderItem) (s other : State) → IsSound s → IsSound other → LookAlike session s other →
     (line session (Select table items cond order) s).0 ≡ (line session (Select table items cond order) other).0
 unfolding line
 answer-alike session table items cond order s other h k l =
-    same_reply session (meant_by_select session s table items cond order) s other (λ edits m. meant_nothing session table items cond order s edits m)
-    ∙ ap (λ m. (statement session m other).0) (select-alike session table items cond order s other h k l)
+    same_reply (meant_by_select session s table items cond order) s other
+    ∙ ap (λ rows. (selected rows other).0) (select-alike session table items cond order s other h k l)
 
 -- ---- rounds
 

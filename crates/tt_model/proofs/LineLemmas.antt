@@ -1,6 +1,6 @@
 -- Lines lead from sound states to sound ones.
 use Rattle.std.proofs.Common.{◌≡◌, inr, ℕ, suc, Bool, true, false, not, if◌then◌else◌, List, [], ◌∷◌, map, Option, Some, None, refl, subst, ◌≤◌, zero, cond, nat_eq, find, unwrap_or, le_refl, arith, pos, length, ap}
-use Rattle.std.specs.Prelude.{option_map}
+use Rattle.std.specs.Prelude.{option_map, Result, Ok, Err}
 use Rattle.std.specs.Option.{option_or}
 use Rattle.tt_value.specs.declared.refusal.Refusal.{Refusal}
 use Rattle.tt_value.specs.declared.refusal.Refusal.TheVariants.{BookmarkBusy}
@@ -11,12 +11,12 @@ use Rattle.tt_value.specs.declared.value.Row.{Row}
 use Rattle.tt_parse.specs.declared.command.OrderItem.{OrderItem}
 use Rattle.tt_parse.specs.declared.command.ColumnText.{ColumnText}
 use Rattle.tt_model.specs.Tables.{Table, PlacedRow, table_named, whole_number_of}
-use Rattle.tt_model.specs.Meaning.{Meant, Makes, Refuses, Gives, unless, first_of, aggregate_refusal, shown, select_refusal, select_in, meant_by_select}
+use Rattle.tt_model.specs.Meaning.{Meant, Makes, Refuses, unless, first_of}
 use Rattle.tt_model.specs.System.{least_unused, column_rows, create_index, subscribe, reader_on, bookmark, meant_by_create_table, meant_by_create_index, meant_by_create_bookmark, meant_by_subscribe}
 use Rattle.tt_model.specs.State.{State, Reader, next, catalog}
 use Rattle.tt_model.specs.declared.definition.CellEdit.{CellEdit}
 use Rattle.tt_model.specs.Sound.{IsUserTable, IsSound, MayEdit}
-use Rattle.tt_model.specs.Step.{number_for, statement, made, unless_refused, system, no_system_position, no_number_for, no_position, edit_length, commit_of, rollback_of, rollback_lengths, is_durable, end_length, given, closed, refused, open_at, no_skip, given_to, next_read_of}
+use Rattle.tt_model.specs.Step.{number_for, statement, made, unless_refused, system, no_system_position, no_number_for, no_position, edit_length, commit_of, rollback_of, rollback_lengths, is_durable, end_length, given, closed, refused, open_at, no_skip, given_to, next_read_of, selected}
 use Rattle.tt_model.proofs.SoundLines.{sound-made_in, sound-Commit, sound-settled_none, sound-rolled_back, sound-system_done}
 use Rattle.tt_model.proofs.EditLemmas.{AreNew, new-MayEdit}
 use Rattle.tt_model.proofs.StatementLemmas.{unless-makes, makes_same}
@@ -43,30 +43,12 @@ sound-made session (e ∷ es) s h o m =
 pub sound-statement : (session : ℕ) (m : Meant) (s : State) → IsSound s →
     ((edits : List CellEdit) → m ≡ Makes edits → AreOfUsers edits × MayEdit (number_for (s.own session) s) edits s) → IsSound ((statement session m s).1)
 sound-statement session (Refuses r) s h f = h
-sound-statement session (Gives rows) s h f = h
 sound-statement session (Makes edits) s h f = sound-made session edits s h ((f edits refl).0) ((f edits refl).1)
 
--- A select makes nothing.
-gives_nothing : (rows : List Row) (edits : List CellEdit) → Gives rows ≡ Makes edits → ⊥
-gives_nothing rows edits h = cc
-
-shown_nothing : (t : Table) (items : Items) (rows : List PlacedRow) (edits : List CellEdit) → shown t items rows ≡ Makes edits → ⊥
-shown_nothing t All rows edits h = gives_nothing _ edits h
-shown_nothing t (Columns names) rows edits h = gives_nothing _ edits h
-shown_nothing t (Sums aggregates) rows edits h = gives_nothing _ edits ((unless-makes (first_of (map (aggregate_refusal t rows) aggregates)) (Gives _) edits h).1)
-
-pub select_nothing : (session : ℕ) (s : State) (items : Items) (cond : Option Cond) (order : List OrderItem) (o : Option Table) (edits : List CellEdit) →
-    select_in session s items cond order o ≡ Makes edits → ⊥
-select_nothing session s items cond order None edits h = let no : ⊥ = cc in no
-select_nothing session s items cond order (Some t) edits h =
-    shown_nothing t items _ edits ((unless-makes (select_refusal t items cond order) (shown t items _) edits h).1)
-
-pub sound-select : (session : ℕ) (s : State) (name : List ℕ) (items : Items) (cond : Option Cond) (order : List OrderItem) → IsSound s →
-    IsSound ((statement session (meant_by_select session s name items cond order) s).1)
-unfolding meant_by_select
-sound-select session s name items cond order h =
-    sound-statement session (select_in session s items cond order (table_named name (catalog s))) s h
-    (λ edits m. absurd (select_nothing session s items cond order (table_named name (catalog s)) edits m))
+-- A select leaves the state.
+pub selected-has : (P : State → Type 0) (rows : Result (List Row) Refusal) (s : State) → P s → P ((selected rows s).1)
+selected-has P (Ok rows) s p = p
+selected-has P (Err r) s p = p
 
 -- ---- transactions of their own that put new rows into free places
 
@@ -81,7 +63,6 @@ sound-new (e ∷ es) s h some n u =
 
 pub sound-system_new : (m : Meant) (s : State) → IsSound s → ((edits : List CellEdit) → m ≡ Makes edits → AreSome edits × AreNew edits × LeaveUserTables edits) → IsSound ((system m s).1)
 sound-system_new (Refuses r) s h f = h
-sound-system_new (Gives rows) s h f = h
 sound-system_new (Makes edits) s h f = sound-new edits s h ((f edits refl).0) ((f edits refl).1) ((f edits refl).2)
 
 new_or_refused : (o : Option Refusal) (es edits : List CellEdit) → AreSome es → AreNew es → LeaveUserTables es → unless o (Makes es) ≡ Makes edits → AreSome edits × AreNew edits × LeaveUserTables edits

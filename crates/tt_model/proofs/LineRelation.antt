@@ -7,8 +7,6 @@ use Rattle.tt_value.specs.declared.refusal.Refusal.{Refusal}
 use Rattle.tt_value.specs.declared.reply.Reply.{Reply}
 use Rattle.tt_parse.specs.declared.command.Command.{Command}
 use Rattle.tt_parse.specs.declared.command.Command.TheVariants.{CreateTable, DropTable, CreateIndex, DropIndex, Insert, Update, Delete, Select, Commit as CommitLine, Rollback, DurableCommit, Flush, Ckpt, CkptBlocking, LogHolds, Bookmark, Backup as BackupLine, XlaCreate, XlaDelete, XlaSubscribe, XlaUnsubscribe, XlaOpen, XlaNext, XlaAcknowledge, XlaClose}
-use Rattle.tt_parse.specs.declared.command.BackupKind.{BackupKind}
-use Rattle.tt_parse.specs.declared.command.BackupKind.TheVariants.{Full, FullEnable, Incremental, IncrOrFull, Stop}
 use Rattle.tt_value.specs.declared.refusal.Refusal.TheVariants.{BookmarkBusy}
 use Rattle.tt_value.specs.declared.reply.Reply.TheVariants.{Done, Changed}
 use Rattle.tt_record.specs.declared.entry.Entry.{Entry}
@@ -17,10 +15,11 @@ use Rattle.tt_model.specs.Tables.{PlacedRow}
 use Rattle.tt_model.specs.Sets.{SetStanding, Readable}
 use Rattle.tt_model.specs.State.{State, Reader, at_one, place_for, next, write_position, with_entry, with_edit, with_edits, all_forced, reversals}
 use Rattle.tt_model.specs.declared.definition.CellEdit.{CellEdit}
-use Rattle.tt_model.specs.Meaning.{Meant, Refuses, Gives, Makes}
+use Rattle.tt_model.specs.Meaning.{Meant, Refuses, Makes, meant_by_select}
 use Rattle.tt_model.specs.System.{bookmark, reader_on, deletes}
-use Rattle.tt_model.specs.Backups.{kind_done, backup_refusal, row_of_set, set_edit, full_now, extended_now, with_set}
-use Rattle.tt_model.specs.Step.{line, unless_refused, forced_where, number_for, no_number_for, no_position, no_system_position, edit_length, end_length, rollback_lengths, is_durable, with_reader, kept_read, next_read_of, made, made_in, statement, session_ended, commit_of, rollback_of, rolled_back, system, system_done, open_at, refused, given, closed, backed_up, backup_position, backup_kind, no_skip, given_to}
+use Rattle.tt_model.specs.Backups.{backup_refusal, row_of_set, set_edit, full_now, extended_now, with_set, SetWork, MakesSet, ContinuesSet, EndsSet, set_work}
+use Rattle.tt_model.specs.Step.{line, unless_refused, forced_where, number_for, no_number_for, no_position, no_system_position, edit_length, end_length, rollback_lengths, is_durable, with_reader, kept_read, next_read_of, made, made_in, statement, session_ended, commit_of, rollback_of, rolled_back, system, system_done, open_at, refused, given, closed, backed_up, backup_position, no_skip, given_to, backup_line}
+use Rattle.tt_model.proofs.LineLemmas.{selected-has}
 
 -- A line that begins or ends a checkpoint.
 abbrev pub is_checkpoint : Command → Bool
@@ -66,7 +65,6 @@ module _ (R : State → State → Type 0) (readers : Bool) (same : (s : State) �
 
   r-statement : (session : ℕ) (m : Meant) (s : State) → R s ((statement session m s).1)
   r-statement session (Refuses r) s = same s
-  r-statement session (Gives rows) s = same s
   r-statement session (Makes edits) s = r-made session edits s
 
   r-settled : (session : ℕ) (s after : State) → R s after → R s (session_ended session after)
@@ -99,7 +97,6 @@ module _ (R : State → State → Type 0) (readers : Bool) (same : (s : State) �
 
   r-system : (m : Meant) (s : State) → R s ((system m s).1)
   r-system (Refuses r) s = same s
-  r-system (Gives rows) s = same s
   r-system (Makes edits) s = r-unless (no_system_position edits s) Done (system_done edits s) s (r-system_done edits s)
 
   r-open_at : readers ≡ true → (session : ℕ) (name : List ℕ) (o : Option PlacedRow) (s : State) → R s ((open_at session name o s).1)
@@ -135,22 +132,21 @@ module _ (R : State → State → Type 0) (readers : Bool) (same : (s : State) �
   r-stop s None = same s
   r-stop s (Some r) = r-system_done (deletes 6 r ∷ []) s
 
-  r-backed_up : (set : ℕ) (kind : BackupKind) (s : State) → R s ((backed_up set kind s).1)
-  r-backed_up set Full s = r-with_set set (Some (Readable (full_now s))) s
-  r-backed_up set FullEnable s = r-set set (Some (Readable (full_now s))) (set_edit (row_of_set set s) set (write_position s) ∷ []) s
-  r-backed_up set Incremental s = r-set set (extended_now (s.sets set) s) (set_edit (row_of_set set s) set (write_position s) ∷ []) s
-  r-backed_up set Stop s = r-stop s (row_of_set set s)
-  r-backed_up set IncrOrFull s = same s
+  r-backed_up : (set : ℕ) (work : SetWork) (s : State) → R s ((backed_up set work s).1)
+  r-backed_up set (MakesSet false) s = r-with_set set (Some (Readable (full_now s))) s
+  r-backed_up set (MakesSet true) s = r-set set (Some (Readable (full_now s))) (set_edit (row_of_set set s) set (write_position s) ∷ []) s
+  r-backed_up set ContinuesSet s = r-set set (extended_now (s.sets set) s) (set_edit (row_of_set set s) set (write_position s) ∷ []) s
+  r-backed_up set EndsSet s = r-stop s (row_of_set set s)
 
-  r-backup_kind : (session set : ℕ) (kind : BackupKind) (s : State) → R s ((backup_kind session set kind s).1)
-  r-backup_kind session set kind s = r-unless (option_or (backup_refusal session s set kind) (backup_position set kind s)) ((backed_up set kind s).0) ((backed_up set kind s).1) s (r-backed_up set kind s)
+  r-backup_line : (session set : ℕ) (work : SetWork) (s : State) → R s ((backup_line session set work s).1)
+  r-backup_line session set work s = r-unless (option_or (backup_refusal session s set work) (backup_position set work s)) ((backed_up set work s).0) ((backed_up set work s).1) s (r-backed_up set work s)
 
   pub line-through : (session : ℕ) (command : Command) (s : State) → is_checkpoint command ≡ false → (is_readers command ≡ true → readers ≡ true) → R s ((line session command s).1)
   unfolding line
   line-through session (Insert table values) s n y = r-statement session _ s
   line-through session (Update table sets cond) s n y = r-statement session _ s
   line-through session (Delete table cond) s n y = r-statement session _ s
-  line-through session (Select table items cond order) s n y = r-statement session _ s
+  line-through session (Select table items cond order) s n y = selected-has (R s) (meant_by_select session s table items cond order) s (same s)
   line-through session CommitLine s n y = r-commit_of session (s.own session) s
   line-through session Rollback s n y = r-rollback_of session (s.own session) s
   line-through session DurableCommit s n y = aside s.own (at_one session true s.wish) s.sets s
@@ -169,6 +165,6 @@ module _ (R : State → State → Type 0) (readers : Bool) (same : (s : State) �
   line-through session (XlaOpen name) s n y = r-opened (y refl) session name s (is_some (s.reader session))
   line-through session (XlaNext count) s n y = r-given (y refl) session (s.reader session) count s
   line-through session XlaClose s n y = r-closed (y refl) session (s.reader session) s
-  line-through session (BackupLine set kind) s n y = r-backup_kind session set (kind_done kind set s) s
+  line-through session (BackupLine set kind) s n y = r-backup_line session set (set_work kind set s) s
   line-through session Ckpt s n y = absurd (true≢false n)
   line-through session CkptBlocking s n y = absurd (true≢false n)

@@ -12,7 +12,7 @@ use Rattle.tt_model.specs.State.{State, Underway}
 use Rattle.tt_model.specs.Meant.{meant}
 use Rattle.tt_model.specs.Meaning.{first_of, meant_by_delete, meant_by_insert, meant_by_select, meant_by_update, refused_if}
 use Rattle.tt_model.specs.System.{in_transaction, meant_by_acknowledge, meant_by_create_bookmark, meant_by_create_index, meant_by_create_table, meant_by_delete_bookmark, meant_by_drop_index, meant_by_drop_table, meant_by_subscribe, meant_by_unsubscribe}
-use Rattle.tt_model.specs.Backups.{backup_refusal, is_not_incremental, kind_done, row_of_set}
+use Rattle.tt_model.specs.Backups.{backup_refusal, is_not_incremental, row_of_set, SetWork, MakesSet, ContinuesSet, EndsSet, set_work}
 use Rattle.tt_model.specs.Step.{backup_position}
 
 abbrev pub aside : (ℕ → ℕ → Bool) → Option Underway → State → State
@@ -44,23 +44,21 @@ not_incremental-aside row (Some Unreadable) stale u s = refl
 not_incremental-aside None (Some (Readable b)) stale u s = refl
 not_incremental-aside (Some r) (Some (Readable b)) stale u s = refl
 
-pub refusal-aside : (session set : ℕ) (kind : BackupKind) (stale : ℕ → ℕ → Bool) (u : Option Underway) (s : State) → backup_refusal session (aside stale u s) set kind ≡ backup_refusal session s set kind
+pub refusal-aside : (session set : ℕ) (work : SetWork) (stale : ℕ → ℕ → Bool) (u : Option Underway) (s : State) → backup_refusal session (aside stale u s) set work ≡ backup_refusal session s set work
 unfolding backup_refusal
-refusal-aside session set Full stale u s = refl
-refusal-aside session set FullEnable stale u s = refl
-refusal-aside session set Incremental stale u s =
+refusal-aside session set (MakesSet false) stale u s = refl
+refusal-aside session set (MakesSet true) stale u s = refl
+refusal-aside session set ContinuesSet stale u s =
     ap (λ c. first_of (in_transaction session s ∷ refused_if (is_none (s.sets set)) NoSet ∷ refused_if c NotIncremental ∷ [])) (not_incremental-aside (row_of_set set s) (s.sets set) stale u s)
-refusal-aside session set Stop stale u s = refl
-refusal-aside session set IncrOrFull stale u s = refl
+refusal-aside session set EndsSet stale u s = refl
 
-pub backup_place-aside : (set : ℕ) (kind : BackupKind) (stale : ℕ → ℕ → Bool) (u : Option Underway) (s : State) → backup_position set kind (aside stale u s) ≡ backup_position set kind s
-backup_place-aside set Full stale u s = refl
-backup_place-aside set FullEnable stale u s = refl
-backup_place-aside set Incremental stale u s = refl
-backup_place-aside set Stop stale u s = refl
-backup_place-aside set IncrOrFull stale u s = refl
+pub backup_place-aside : (set : ℕ) (work : SetWork) (stale : ℕ → ℕ → Bool) (u : Option Underway) (s : State) → backup_position set work (aside stale u s) ≡ backup_position set work s
+backup_place-aside set (MakesSet false) stale u s = refl
+backup_place-aside set (MakesSet true) stale u s = refl
+backup_place-aside set ContinuesSet stale u s = refl
+backup_place-aside set EndsSet stale u s = refl
 
-pub kind-aside : (set : ℕ) (kind : BackupKind) (stale : ℕ → ℕ → Bool) (u : Option Underway) (s : State) → kind_done kind set (aside stale u s) ≡ kind_done kind set s
+pub kind-aside : (set : ℕ) (kind : BackupKind) (stale : ℕ → ℕ → Bool) (u : Option Underway) (s : State) → set_work kind set (aside stale u s) ≡ set_work kind set s
 kind-aside set Full stale u s = refl
 kind-aside set FullEnable stale u s = refl
 kind-aside set Incremental stale u s = refl

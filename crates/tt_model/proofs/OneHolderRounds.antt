@@ -8,8 +8,6 @@ use Rattle.tt_value.specs.declared.reply.Reply.{Reply}
 use Rattle.tt_value.specs.declared.reply.Reply.TheVariants.{Done}
 use Rattle.tt_parse.specs.declared.command.Command.{Command}
 use Rattle.tt_parse.specs.declared.command.Command.TheVariants.{CreateTable, DropTable, CreateIndex, DropIndex, Insert, Update, Delete, Select, Commit as CommitLine, Rollback, DurableCommit, Flush, Ckpt, CkptBlocking, LogHolds, Bookmark, Backup as BackupLine, XlaCreate, XlaDelete, XlaSubscribe, XlaUnsubscribe, XlaOpen, XlaNext, XlaAcknowledge, XlaClose}
-use Rattle.tt_parse.specs.declared.command.BackupKind.{BackupKind}
-use Rattle.tt_parse.specs.declared.command.BackupKind.TheVariants.{Full, FullEnable, Incremental, IncrOrFull, Stop}
 use Rattle.tt_record.specs.declared.entry.Entry.TheVariants.{Commit}
 use Rattle.tt_set.specs.declared.settings.Settings.{Settings}
 use Rattle.tt_model.specs.Holders.{Held, HasOneHolder}
@@ -18,19 +16,19 @@ use Rattle.tt_model.specs.Sets.{Readable, SetStanding}
 use Rattle.tt_model.specs.Tables.{PlacedRow, table_named, Catalog}
 use Rattle.tt_model.specs.State.{State, Reader, Underway, live_in, next, catalog, write_position, with_entry, with_edits, all_forced}
 use Rattle.tt_model.specs.declared.definition.CellEdit.{CellEdit}
-use Rattle.tt_model.specs.Meaning.{Meant, Makes, Refuses, Gives, meant_by_insert, meant_by_update, meant_by_delete, meant_by_select}
+use Rattle.tt_model.specs.Meaning.{Meant, Makes, Refuses, meant_by_insert, meant_by_update, meant_by_delete, meant_by_select}
 use Rattle.tt_model.specs.System.{bookmark, reader_on, deletes}
-use Rattle.tt_model.specs.Backups.{kind_done, row_of_set, set_edit, full_now, extended_now, with_set, backup_refusal}
+use Rattle.tt_model.specs.Backups.{row_of_set, set_edit, full_now, extended_now, with_set, backup_refusal, SetWork, MakesSet, ContinuesSet, EndsSet, set_work}
 use Rattle.tt_model.specs.Sound.{IsSound}
 use Rattle.tt_model.specs.Checkpoint.{begin_checkpoint, copied, with_copies, with_all_copies, complete_where_due, completed, with_completion}
-use Rattle.tt_model.specs.Step.{Step, Answers, WantsMemory, line, unless_refused, forced_where, statement, made, made_in, number_for, no_number_for, no_position, no_system_position, edit_length, session_ended, is_durable, commit_of, rollback_of, rolled_back, rollback_lengths, end_length, system, system_done, open_at, given, closed, refused, kept_read, with_reader, backed_up, backup_position, backup_kind, checkpoint_open, no_checkpoint_number, least_open, begun_reply, completion_after, no_skip, given_to, next_read_of}
+use Rattle.tt_model.specs.Step.{Step, Answers, WantsMemory, line, unless_refused, forced_where, statement, made, made_in, number_for, no_number_for, no_position, no_system_position, edit_length, session_ended, is_durable, commit_of, rollback_of, rolled_back, rollback_lengths, end_length, system, system_done, open_at, given, closed, refused, kept_read, with_reader, backed_up, backup_position, checkpoint_open, no_checkpoint_number, least_open, begun_reply, completion_after, no_skip, given_to, next_read_of, backup_line}
 use Rattle.tt_model.specs.Run.{begun}
 use Rattle.tt_model.specs.WholeRuns.{Each, HasKeysOnce, HasValuesOnce, HeldOnce, HeldOnceStays}
 use Rattle.tt_model.proofs.OneHolderLemmas.{one_holder-Mark}
-use Rattle.tt_model.proofs.LineLemmas.{select_nothing}
 use Rattle.tt_model.proofs.SoundLines.{writes, sound-with_copies}
 use Rattle.tt_model.proofs.OneHolderLines.{AllFree, one-with_edits, fresh-holder, one-system, one-rolled_back}
 use Rattle.tt_model.proofs.OneHolderStatements.{IsAmong, AllSafe, each-mapped, insert-free, delete-free, update-free, key-safe, value-safe}
+use Rattle.tt_model.proofs.LineLemmas.{selected-has}
 
 module _ (name : Held) where
   Holds : State → Type 0
@@ -66,7 +64,6 @@ module _ (name : Held) where
   holds_statement : (session : ℕ) (m : Meant) (s : State) → IsSound s → ((edits : List CellEdit) → m ≡ Makes edits → AllFree (number_for (s.own session) s) name edits s.entries) →
       Holds s → Holds ((statement session m s).1)
   holds_statement session (Refuses r) s h f one = one
-  holds_statement session (Gives rows) s h f one = one
   holds_statement session (Makes edits) s h f one = holds_made session edits s h (f edits refl) one
 
   -- ---- commits, rollbacks and transactions of their own
@@ -96,7 +93,6 @@ module _ (name : Held) where
 
   holds_system : (m : Meant) (s : State) → Holds s → Holds ((system m s).1)
   holds_system (Refuses r) s one = one
-  holds_system (Gives rows) s one = one
   holds_system (Makes edits) s one = holds_unless (no_system_position edits s) Done (system_done edits s) s one (holds_system_done edits s one)
 
   -- ---- readers and backups
@@ -128,18 +124,17 @@ module _ (name : Held) where
   holds_stop s None one = one
   holds_stop s (Some r) one = holds_system_done (deletes 6 r ∷ []) s one
 
-  holds_backed_up : (set : ℕ) (kind : BackupKind) (s : State) → Holds s → Holds ((backed_up set kind s).1)
-  holds_backed_up set Full s one = holds_with_set set (Some (Readable (full_now s))) s one
-  holds_backed_up set FullEnable s one =
+  holds_backed_up : (set : ℕ) (work : SetWork) (s : State) → Holds s → Holds ((backed_up set work s).1)
+  holds_backed_up set (MakesSet false) s one = holds_with_set set (Some (Readable (full_now s))) s one
+  holds_backed_up set (MakesSet true) s one =
       holds_system_done (set_edit (row_of_set set s) set (write_position s) ∷ []) (with_set set (Some (Readable (full_now s))) (all_forced s)) (holds_with_set set (Some (Readable (full_now s))) s one)
-  holds_backed_up set Incremental s one =
+  holds_backed_up set ContinuesSet s one =
       holds_system_done (set_edit (row_of_set set s) set (write_position s) ∷ []) (with_set set (extended_now (s.sets set) s) (all_forced s)) (holds_with_set set (extended_now (s.sets set) s) s one)
-  holds_backed_up set Stop s one = holds_stop s (row_of_set set s) one
-  holds_backed_up set IncrOrFull s one = one
+  holds_backed_up set EndsSet s one = holds_stop s (row_of_set set s) one
 
-  holds_backup : (session set : ℕ) (kind : BackupKind) (s : State) → Holds s → Holds ((backup_kind session set kind s).1)
-  holds_backup session set kind s one =
-      holds_unless (option_or (backup_refusal session s set kind) (backup_position set kind s)) ((backed_up set kind s).0) ((backed_up set kind s).1) s one (holds_backed_up set kind s one)
+  holds_backup : (session set : ℕ) (work : SetWork) (s : State) → Holds s → Holds ((backup_line session set work s).1)
+  holds_backup session set work s one =
+      holds_unless (option_or (backup_refusal session s set work) (backup_position set work s)) ((backed_up set work s).0) ((backed_up set work s).1) s one (holds_backed_up set work s one)
 
   -- ---- checkpoints
 
@@ -189,8 +184,7 @@ module _ (name : Held) where
       holds_statement session _ s h (λ edits m. update-free name session s table sets condition (table_named table (catalog s)) edits h f refl m) one
   holds_line session (Delete table condition) s h f one =
       holds_statement session _ s h (λ edits m. delete-free name session s table condition (table_named table (catalog s)) edits h f refl m) one
-  holds_line session (Select table items condition order) s h f one =
-      holds_statement session _ s h (λ edits m. absurd (select_nothing session s items condition order (table_named table (catalog s)) edits m)) one
+  holds_line session (Select table items condition order) s h f one = selected-has Holds (meant_by_select session s table items condition order) s one
   holds_line session CommitLine s h f one = holds_commit session (s.own session) s one
   holds_line session Rollback s h f one = holds_rollback session (s.own session) s one
   holds_line session DurableCommit s h f one = same_entries s _ refl one
@@ -209,7 +203,7 @@ module _ (name : Held) where
   holds_line session (XlaOpen x) s h f one = holds_opened session x s (is_some (s.reader session)) one
   holds_line session (XlaNext n) s h f one = holds_given session (s.reader session) n s one
   holds_line session XlaClose s h f one = holds_closed session (s.reader session) s one
-  holds_line session (BackupLine set kind) s h f one = holds_backup session set (kind_done kind set s) s one
+  holds_line session (BackupLine set kind) s h f one = holds_backup session set (set_work kind set s) s one
   holds_line session Ckpt s h f one =
       holds_unless (option_or (checkpoint_open s) (no_checkpoint_number s)) (begun_reply s) (begin_checkpoint s) s one (same_entries s (begin_checkpoint s) (entries_begin s) one)
   holds_line session CkptBlocking s h f one =

@@ -199,11 +199,11 @@ values_apart t row (set ∷ sets) e = (e.0, values_apart t row sets (e.1))
 module _ (name : Held) (session : ℕ) (s : State) (h : IsSound s) (t : Table) (safe : IsSafe name session s t) (sets : List SetItem)
     (apart : Each (λ (set : SetItem). list_any (λ k. nat_eq k (unwrap_or (column_named t set.column) 0)) t.key ≡ false) sets) where
   row_free : (r : PlacedRow) (rows : List PlacedRow) → let new = set_values t (r.1) sets in let row : Row = record { values = with_values new ((r.1).values) } in
-      update_row_refusal session s t new r row rows ≡ None → (has_held name (full t (r.1)) || has_held name (full t row)) ≡ true → other_holder (Some (number_for (s.own session) s)) name s.entries ≡ None
+      update_row_refusal session s t (record { before = r; after = row; values = new; seen = rows }) ≡ None → (has_held name (full t (r.1)) || has_held name (full t row)) ≡ true → other_holder (Some (number_for (s.own session) s)) name s.entries ≡ None
   row_free r rows m y =
       let new : List (ℕ × Value) = set_values t (r.1) sets in
       let row : Row = record { values = with_values new ((r.1).values) } in
-      let tests = each_none (update_row_tests session s t new r row rows) m in
+      let tests = each_none (update_row_tests session s t (record { before = r; after = row; values = new; seen = rows })) m in
       let both = each-none (λ (i : Index). first_of (value_conflict (s.own session) (trail s) (value_name i (r.1)) ∷ value_conflict (s.own session) (trail s) (value_name i row) ∷ [])) (unique_of t (catalog s))
       ((((((tests.1).1).1).1).1).0) in
       let key : conflict (s.own session) (trail s) (key_name t (r.1)) ≡ None = ((((tests.1).1).1).1).0 in
@@ -230,8 +230,8 @@ module _ (name : Held) (session : ℕ) (s : State) (h : IsSound s) (t : Table) (
       let new : List (ℕ × Value) = set_values t (r.1) sets in
       let row : Row = record { values = with_values new ((r.1).values) } in
       let edit : CellEdit = record { place = Some (r.0); before = full t (r.1); after = full t row } in
-      let first : (update_row_refusal session s t new r row all ≡ None) × HasFirst edit (update_rows session s t sets (with_row (r.0, row) all) rest) edits
-      = unless_row-first (update_row_refusal session s t new r row all) edit (update_rows session s t sets (with_row (r.0, row) all) rest) edits m in
+      let first : (update_row_refusal session s t (record { before = r; after = row; values = new; seen = all }) ≡ None) × HasFirst edit (update_rows session s t sets (with_row (r.0, row) all) rest) edits
+      = unless_row-first (update_row_refusal session s t (record { before = r; after = row; values = new; seen = all })) edit (update_rows session s t sets (with_row (r.0, row) all) rest) edits m in
       subst (λ es. AllFree (number_for (s.own session) s) name es s.entries) ((first.1).whole)
       ((λ y. row_free r all (first.0) y), updates_free (with_row (r.0, row) all) rest ((first.1).others) ((first.1).made))
 

@@ -19,7 +19,7 @@ use Rattle.tt_record.specs.Entry.{IsTransaction}
 use Rattle.tt_model.specs.Holders.{value_at}
 use Rattle.tt_model.specs.Tables.{PlacedRow, Table, table_named, text_at}
 use Rattle.tt_model.specs.Meaning.{Makes, first_of, no_room, refused_if}
-use Rattle.tt_model.specs.System.{acknowledge, acknowledge_in, rewrites, adds, bookmark, bookmark_values, in_transaction, meant_by_acknowledge, meant_by_create_bookmark, meant_by_subscribe, number, row, subscribe, subscription, system_rows}
+use Rattle.tt_model.specs.System.{acknowledge, rewrites, adds, bookmark, bookmark_values, in_transaction, meant_by_acknowledge, meant_by_create_bookmark, meant_by_subscribe, number, row, subscribe, subscription, system_rows, reader_at, reader_row}
 use Rattle.tt_model.specs.State.{ReadPlace, Reader, State, catalog, low_now, write_position}
 use Rattle.tt_model.specs.declared.definition.CellEdit.{CellEdit}
 use Rattle.tt_model.specs.Sound.{IsSound}
@@ -104,16 +104,16 @@ create_bookmark-plain session s name edits n is number h ranged m =
     (bookmark_row-storable name place (name-short name is) (name-utf8 name is) ranged.end (low_kept s ranged) (omega arith)) (free_low s h ((((passed.1).1).1).0)))
 
 acknowledged_plain : (session : ℕ) (r : Reader) (s : State) (o : Option PlacedRow) (edits : List CellEdit) (n : ℕ) → bookmark r.bookmark s ≡ o → HasNamedBookmarks s → IsKept r.place.at → IsKept r.place.hold →
-    r.place.skip ≤ 4294967295 → IsSound s → IsStored s → IsTransaction n → acknowledge_in session s r o ≡ Makes edits → Each IsPlain (changes n edits s)
+    r.place.skip ≤ 4294967295 → IsSound s → IsStored s → IsTransaction n → acknowledge session s (reader_at r o) ≡ Makes edits → Each IsPlain (changes n edits s)
 acknowledged_plain session r s None edits n is names at hold skip sound h number m = absurd (refuses_none _ _ edits m)
 acknowledged_plain session r s (Some found) edits n is names at hold skip sound h number m =
     let written : List CellEdit = rewrites 4 found (bookmark_values r.bookmark r.place) ∷ [] in
-    subst (λ (es : List CellEdit). Each IsPlain (changes n es s)) (makes_same written edits ((unless-makes (in_transaction session s) (Makes written) edits m).1))
+    subst (λ (es : List CellEdit). Each IsPlain (changes n es s)) (makes_same written edits ((unless-makes (first_of (in_transaction session s ∷ [])) (Makes written) edits m).1))
     (rewritten-plain 4 n found (bookmark_values r.bookmark r.place) s s (lit< tt) sound h number (bookmark-lies r.bookmark s found is)
     (bookmark_row-storable r.bookmark r.place (names r.bookmark (ap is_some is)) (there_utf8 r.bookmark s found is h) at hold skip))
 
 acknowledge_plain : (session : ℕ) (s : State) (o : Option Reader) (edits : List CellEdit) (n : ℕ) → ((r : Reader) → o ≡ Some r → IsKept r.place.at × IsKept r.place.hold × (r.place.skip ≤ 4294967295)) →
-    HasNamedBookmarks s → IsSound s → IsStored s → IsTransaction n → acknowledge session s o ≡ Makes edits → Each IsPlain (changes n edits s)
+    HasNamedBookmarks s → IsSound s → IsStored s → IsTransaction n → acknowledge session s (reader_row s o) ≡ Makes edits → Each IsPlain (changes n edits s)
 acknowledge_plain session s None edits n readers names sound h number m = absurd (refuses_none _ _ edits m)
 acknowledge_plain session s (Some r) edits n readers names sound h number m =
     let kept : IsKept r.place.at × IsKept r.place.hold × (r.place.skip ≤ 4294967295) = readers r refl in

@@ -209,9 +209,9 @@ updates_placed session s t sets all (r ∷ rest) edits cells table sources takes
     let new : List (ℕ × Value) = set_values t (r.1) sets in
     let row : Row = record { values = with_values new ((r.1).values) } in
     let edit : CellEdit = record { place = Some (r.0); before = full t (r.1); after = full t row } in
-    let first : (update_row_refusal session s t new r row all ≡ None) × HasFirst edit (update_rows session s t sets (with_row (r.0, row) all) rest) edits
-    = unless_row-first (update_row_refusal session s t new r row all) edit (update_rows session s t sets (with_row (r.0, row) all) rest) edits m in
-    let tests : AllNone (update_row_tests session s t new r row all) = each_none (update_row_tests session s t new r row all) (first.0) in
+    let first : (update_row_refusal session s t (record { before = r; after = row; values = new; seen = all }) ≡ None) × HasFirst edit (update_rows session s t sets (with_row (r.0, row) all) rest) edits
+    = unless_row-first (update_row_refusal session s t (record { before = r; after = row; values = new; seen = all })) edit (update_rows session s t sets (with_row (r.0, row) all) rest) edits m in
+    let tests : AllNone (update_row_tests session s t (record { before = r; after = row; values = new; seen = all })) = each_none (update_row_tests session s t (record { before = r; after = row; values = new; seen = all })) (first.0) in
     let old : IsCell (full t (r.1)) = lying t.id (r.0) (r.1) cells h (lie.0) in
     let stored : IsStorable (r.1) = old.2 in
     let values : All IsStorableValue row.values × (length row.values ≡ length (r.1).values) =

@@ -5,8 +5,6 @@ use Rattle.std.specs.List.{filter_map, cons_option}
 use Rattle.tt_value.specs.Stored.{IsCell, IsStorable, IsStorableValue}
 use Rattle.tt_value.specs.declared.position.Position.{Position}
 use Rattle.tt_value.specs.declared.refusal.Refusal.TheVariants.{NoSet, NotIncremental, SetThere, TooMany}
-use Rattle.tt_parse.specs.declared.command.BackupKind.{BackupKind}
-use Rattle.tt_parse.specs.declared.command.BackupKind.TheVariants.{Full, FullEnable, Incremental, IncrOrFull, Stop}
 use Rattle.tt_record.specs.Entry.{IsTransaction}
 use Rattle.tt_model.specs.Trail.{Placed, Trail, before, position_lt}
 use Rattle.tt_model.specs.Committed.{is_full}
@@ -16,7 +14,7 @@ use Rattle.tt_model.specs.Tables.{PlacedRow}
 use Rattle.tt_model.specs.Sets.{SetStanding, Readable, Unreadable}
 use Rattle.tt_model.specs.Meaning.{first_of, no_room, refused_if}
 use Rattle.tt_model.specs.System.{deletes, in_transaction, number, row, system_rows}
-use Rattle.tt_model.specs.Backups.{backup_refusal, first_row_refusal, is_not_incremental, row_of_set, set_edit}
+use Rattle.tt_model.specs.Backups.{backup_refusal, first_row_refusal, is_not_incremental, row_of_set, set_edit, SetWork, MakesSet, ContinuesSet, EndsSet}
 use Rattle.tt_model.specs.State.{State, all_forced, free_place, low_now, trail, write_position}
 use Rattle.tt_model.specs.Sound.{IsSound}
 use Rattle.tt_model.specs.WholeRuns.{Each}
@@ -126,19 +124,18 @@ row_is_there o (Some x) s some isnt is = no_row x (subst (λ (p : Option PlacedR
     no_row (Readable b) k = true≢false k
     no_row Unreadable k = true≢false k
 
-room_for : (session set : ℕ) (s : State) (done : BackupKind) → writes_row done ≡ true → backup_refusal session s set done ≡ None → row_of_set set s ≡ None → no_room 1 s ≡ None
+room_for : (session set : ℕ) (s : State) (done : SetWork) → writes_row done ≡ true → backup_refusal session s set done ≡ None → row_of_set set s ≡ None → no_room 1 s ≡ None
 unfolding backup_refusal
-room_for session set s Full writes none is = absurd (true≢false (sym writes))
-room_for session set s FullEnable writes none is =
+room_for session set s (MakesSet false) writes none is = absurd (true≢false (sym writes))
+room_for session set s (MakesSet true) writes none is =
     first_row_room set s (row_of_set set s) ((((each_none (in_transaction session s ∷ refused_if (is_some (s.sets set)) SetThere ∷ first_row_refusal set s ∷ []) none).1).1).0) is
-room_for session set s Incremental writes none is =
+room_for session set s ContinuesSet writes none is =
     let tests : AllNone (in_transaction session s ∷ refused_if (is_none (s.sets set)) NoSet ∷ refused_if (is_not_incremental (row_of_set set s) (s.sets set) s) NotIncremental ∷ [])
     = each_none (in_transaction session s ∷ refused_if (is_none (s.sets set)) NoSet ∷ refused_if (is_not_incremental (row_of_set set s) (s.sets set) s) NotIncremental ∷ []) none in
     absurd (row_is_there (row_of_set set s) (s.sets set) s (not_refused (is_none (s.sets set)) NoSet ((tests.1).0)) (not_refused (is_not_incremental (row_of_set set s) (s.sets set) s) NotIncremental (((tests.1).1).0)) is)
-room_for session set s Stop writes none is = absurd (true≢false (sym writes))
-room_for session set s IncrOrFull writes none is = absurd (true≢false (sym writes))
+room_for session set s EndsSet writes none is = absurd (true≢false (sym writes))
 
-pub set_row-plain : (session set n : ℕ) (s : State) (done : BackupKind) → writes_row done ≡ true → backup_refusal session s set done ≡ None → set ≤ 999 → IsSound s → IsStored s → IsRanged s → IsTransaction n →
+pub set_row-plain : (session set n : ℕ) (s : State) (done : SetWork) → writes_row done ≡ true → backup_refusal session s set done ≡ None → set ≤ 999 → IsSound s → IsStored s → IsRanged s → IsTransaction n →
     Each IsPlain (changes n (set_edit (row_of_set set s) set (write_position s) ∷ []) (all_forced s))
 set_row-plain session set n s done writes none low sound h ranged number =
     set_plain set n s (row_of_set set s) refl (room_for session set s done writes none) low sound h ranged number

@@ -15,7 +15,7 @@ use Rattle.tt_set.specs.declared.settings.Settings.{Settings}
 use Rattle.tt_model.specs.Opened.{Opened}
 use Rattle.tt_model.specs.Sets.{SetStanding}
 use Rattle.tt_model.specs.Tables.{Catalog, table_named}
-use Rattle.tt_model.specs.Meaning.{Makes, meant_by_select}
+use Rattle.tt_model.specs.Meaning.{Makes}
 use Rattle.tt_model.specs.Meant.{meant}
 use Rattle.tt_model.specs.System.{bookmark}
 use Rattle.tt_model.specs.State.{Underway, Reader, State, all_forced, catalog, lengths_fit, live_in, next, reversals, trail, with_entry}
@@ -31,7 +31,6 @@ use Rattle.tt_model.specs.StepLaws.{EachOfWorks, WorksArePlain}
 use Rattle.tt_model.specs.Works.{changes, rolled_entries, work_of_end, works_of}
 use Rattle.tt_model.proofs.FreePlaces.{not_refused}
 use Rattle.tt_model.proofs.GrowLemmas.{readers-with_copies}
-use Rattle.tt_model.proofs.LineLemmas.{select_nothing}
 use Rattle.tt_model.proofs.LogRanges.{IsRanged, fits_next, log-ranged, ranged-ended, ranged-entry, ranged-log, ranged-same, ranged-step}
 use Rattle.tt_model.proofs.NumberLemmas.{next-least}
 use Rattle.tt_model.proofs.NumberedWorks.{live-each}
@@ -55,16 +54,12 @@ use Rattle.tt_model.proofs.WorkLemmas.{rolled_same}
 nothing_plain : (edits : List CellEdit) (n : ℕ) (s : State) → Makes [] ≡ Makes edits → Each IsPlain (changes n edits s)
 nothing_plain edits n s m = subst (λ (es : List CellEdit). Each IsPlain (changes n es s)) (makes_same [] edits m) tt
 
-select_plain : (session : ℕ) (s : State) (name : List ℕ) (items : _) (cond : _) (order : _) (edits : List CellEdit) (n : ℕ) → meant_by_select session s name items cond order ≡ Makes edits → Each IsPlain (changes n edits s)
-unfolding meant_by_select
-select_plain session s name items cond order edits n m = absurd (select_nothing session s items cond order (table_named name (catalog s)) edits m)
-
 edits-plain : (session : ℕ) (command : Command) (s : State) (edits : List CellEdit) (n : ℕ) → HasRanges command → IsSound s → IsStored s → IsRanged s → HasStorableRows s → MayWrite n s → IsTransaction n →
     meant session command s ≡ Makes edits → Each IsPlain (changes n edits s)
 edits-plain session (Insert table values) s edits n range sound h ranged rows may number m = insert-plain session s table values edits n rows.tables range number h m
 edits-plain session (Update table sets cond) s edits n range sound h ranged rows may number m = update-plain session s table sets cond edits n rows.tables range sound number h m
 edits-plain session (Delete table cond) s edits n range sound h ranged rows may number m = delete-plain session s table cond edits n sound number h m
-edits-plain session (Select table items cond order) s edits n range sound h ranged rows may number m = select_plain session s table items cond order edits n m
+edits-plain session (Select table items cond order) s edits n range sound h ranged rows may number m = nothing_plain edits n s m
 edits-plain session CommitLine s edits n range sound h ranged rows may number m = nothing_plain edits n s m
 edits-plain session Rollback s edits n range sound h ranged rows may number m = nothing_plain edits n s m
 edits-plain session DurableCommit s edits n range sound h ranged rows may number m = nothing_plain edits n s m

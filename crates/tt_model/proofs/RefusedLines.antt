@@ -9,17 +9,16 @@ use Rattle.tt_value.specs.declared.reply.Reply.{Reply}
 use Rattle.tt_value.specs.declared.reply.Reply.TheVariants.{Done, Changed, Refused}
 use Rattle.tt_parse.specs.declared.command.Command.{Command}
 use Rattle.tt_parse.specs.declared.command.Command.TheVariants.{CreateTable, DropTable, CreateIndex, DropIndex, Insert, Update, Delete, Select, Commit as CommitLine, Rollback, DurableCommit, Flush, Ckpt, CkptBlocking, LogHolds, Bookmark, Backup as BackupLine, XlaCreate, XlaDelete, XlaSubscribe, XlaUnsubscribe, XlaOpen, XlaNext, XlaAcknowledge, XlaClose}
-use Rattle.tt_parse.specs.declared.command.BackupKind.{BackupKind}
-use Rattle.tt_parse.specs.declared.command.BackupKind.TheVariants.{Full, FullEnable, Incremental, IncrOrFull, Stop}
 use Rattle.tt_model.specs.Tables.{PlacedRow}
 use Rattle.tt_model.specs.State.{State, Reader, all_forced, live_in}
 use Rattle.tt_model.specs.declared.definition.CellEdit.{CellEdit}
 use Rattle.tt_model.specs.Checkpoint.{begin_checkpoint, with_all_copies, with_completion, with_copies}
-use Rattle.tt_model.specs.Meaning.{Meant, Refuses, Gives, Makes}
+use Rattle.tt_model.specs.Meaning.{Meant, Refuses, Makes, meant_by_select}
 use Rattle.tt_model.specs.System.{bookmark, reader_on}
-use Rattle.tt_model.specs.Backups.{backup_refusal, kind_done}
-use Rattle.tt_model.specs.Step.{Step, Answers, Answered, WantsMemory, answer, backed_up, backup_kind, backup_position, begun_reply, checkpoint_open, closed, commit_of, completion_after, edit_length, end_length, forces_first, given, given_to, next_read_of, no_skip, is_refused, least_open, line, made, made_in, no_checkpoint_number, no_number_for, no_position, no_system_position, number_for, open_at, refused, rollback_lengths, rollback_of, rolled_back, session_ended, statement, system, system_done, unless_refused}
+use Rattle.tt_model.specs.Backups.{backup_refusal, SetWork, MakesSet, ContinuesSet, EndsSet, set_work}
+use Rattle.tt_model.specs.Step.{Step, Answers, Answered, WantsMemory, answer, backed_up, backup_position, begun_reply, checkpoint_open, closed, commit_of, completion_after, edit_length, end_length, forces_first, given, given_to, next_read_of, no_skip, is_refused, least_open, line, made, made_in, no_checkpoint_number, no_number_for, no_position, no_system_position, number_for, open_at, refused, rollback_lengths, rollback_of, rolled_back, session_ended, statement, system, system_done, unless_refused, backup_line, selected}
 use Rattle.tt_model.specs.StepLaws.{RefusedLinesLeaveAll, StepsAreDetermined, forces_before}
+use Rattle.tt_value.specs.declared.value.Row.{Row}
 
 -- ---- lines
 
@@ -37,7 +36,6 @@ left_made session (e ∷ es) s is =
 
 left_statement : (session : ℕ) (m : Meant) (s : State) → LeavesWhereRefused (statement session m s) s
 left_statement session (Refuses r) s is = refl
-left_statement session (Gives rows) s is = refl
 left_statement session (Makes edits) s is = left_made session edits s is
 
 left_commit : (session : ℕ) (o : Option ℕ) (s : State) → LeavesWhereRefused (commit_of session o s) s
@@ -50,7 +48,6 @@ left_rollback session (Some t) s is = left_unless (no_position (rollback_lengths
 
 left_system : (m : Meant) (s : State) → LeavesWhereRefused (system m s) s
 left_system (Refuses r) s is = refl
-left_system (Gives rows) s is = refl
 left_system (Makes edits) s is = left_unless (no_system_position edits s) (Done, system_done edits s) s refl is
 
 left_open : (session : ℕ) (name : List ℕ) (o : Option PlacedRow) (s : State) → LeavesWhereRefused (open_at session name o s) s
@@ -69,22 +66,25 @@ left_closed : (session : ℕ) (o : Option Reader) (s : State) → LeavesWhereRef
 left_closed session None s is = refl
 left_closed session (Some r) s is = absurd (true≢false (sym is))
 
-backs_up : (set : ℕ) (kind : BackupKind) (s : State) → is_refused ((backed_up set kind s).0) ≡ false
-backs_up set Full s = refl
-backs_up set FullEnable s = refl
-backs_up set Incremental s = refl
-backs_up set Stop s = refl
-backs_up set IncrOrFull s = refl
+left_selected : (rows : Result (List Row) Refusal) (s : State) → LeavesWhereRefused (selected rows s) s
+left_selected (Ok rows) s is = refl
+left_selected (Err r) s is = refl
 
-left_backup : (session set : ℕ) (kind : BackupKind) (s : State) → LeavesWhereRefused (backup_kind session set kind s) s
-left_backup session set kind s is = left_unless (option_or (backup_refusal session s set kind) (backup_position set kind s)) (backed_up set kind s) s (backs_up set kind s) is
+backs_up : (set : ℕ) (work : SetWork) (s : State) → is_refused ((backed_up set work s).0) ≡ false
+backs_up set (MakesSet false) s = refl
+backs_up set (MakesSet true) s = refl
+backs_up set ContinuesSet s = refl
+backs_up set EndsSet s = refl
+
+left_backup : (session set : ℕ) (work : SetWork) (s : State) → LeavesWhereRefused (backup_line session set work s) s
+left_backup session set work s is = left_unless (option_or (backup_refusal session s set work) (backup_position set work s)) (backed_up set work s) s (backs_up set work s) is
 
 line_left : (session : ℕ) (command : Command) (s : State) → LeavesWhereRefused (line session command s) s
 unfolding line
 line_left session (Insert table values) s is = left_statement session _ s is
 line_left session (Update table sets cond) s is = left_statement session _ s is
 line_left session (Delete table cond) s is = left_statement session _ s is
-line_left session (Select table items cond order) s is = left_statement session _ s is
+line_left session (Select table items cond order) s is = left_selected (meant_by_select session s table items cond order) s is
 line_left session CommitLine s is = left_commit session (s.own session) s is
 line_left session Rollback s is = left_rollback session (s.own session) s is
 line_left session DurableCommit s is = absurd (true≢false (sym is))
@@ -103,7 +103,7 @@ line_left session XlaAcknowledge s is = left_system _ s is
 line_left session (XlaOpen name) s is = left_opened session name s (is_some (s.reader session)) is
 line_left session (XlaNext n) s is = left_given session (s.reader session) n s is
 line_left session XlaClose s is = left_closed session (s.reader session) s is
-line_left session (BackupLine set kind) s is = left_backup session set (kind_done kind set s) s is
+line_left session (BackupLine set kind) s is = left_backup session set (set_work kind set s) s is
 line_left session Ckpt s is = left_unless (option_or (checkpoint_open s) (no_checkpoint_number s)) (begun_reply s, begin_checkpoint s) s refl is
 line_left session CkptBlocking s is =
     left_unless (option_or (checkpoint_open s) (option_or (least_open (live_in s)) (no_checkpoint_number s))) (begun_reply s, with_completion (with_all_copies (begin_checkpoint s))) s refl is

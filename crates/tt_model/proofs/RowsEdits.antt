@@ -14,7 +14,7 @@ use Rattle.tt_model.specs.Tables.{Index, PlacedRow, Table, by_number, by_text, n
 use Rattle.tt_model.specs.State.{Reader, State, bound, catalog, cells_of}
 use Rattle.tt_model.specs.declared.definition.CellEdit.{CellEdit}
 use Rattle.tt_model.specs.Meaning.{Makes, first_of, refused_if, unless}
-use Rattle.tt_model.specs.System.{acknowledge, acknowledge_in, bookmark_values, rewrites, adds, bookmark, column_rows, create_index, delete_bookmark, deletes, drop_index, drop_table, in_transaction, meant_by_create_bookmark, meant_by_create_table, open_on, row, subscribe, subscription, system_rows, unsubscribe}
+use Rattle.tt_model.specs.System.{acknowledge, bookmark_values, rewrites, adds, bookmark, column_rows, create_index, delete_bookmark, deletes, drop_index, drop_table, in_transaction, meant_by_create_bookmark, meant_by_create_table, open_on, row, subscribe, subscription, system_rows, unsubscribe, reader_at, reader_row}
 use Rattle.tt_model.specs.Backups.{set_edit}
 use Rattle.tt_model.specs.Sound.{IsSound}
 use Rattle.tt_model.proofs.IsolationLemmas.{full-below}
@@ -104,12 +104,12 @@ unsubscribe-of_system session s name None edits e = absurd (refuses_none _ _ edi
 unsubscribe-of_system session s name (Some t) edits e =
     system_or_refused _ (map (deletes 5) (subscription name t.id s)) edits (deletes-of_system 5 (subscription name t.id s) (lit< tt)) e
 
-acknowledged-of_system : (session : ℕ) (s : State) (r : Reader) (o : Option PlacedRow) (edits : List CellEdit) → acknowledge_in session s r o ≡ Makes edits → AreOfSystem edits
+acknowledged-of_system : (session : ℕ) (s : State) (r : Reader) (o : Option PlacedRow) (edits : List CellEdit) → acknowledge session s (reader_at r o) ≡ Makes edits → AreOfSystem edits
 acknowledged-of_system session s r None edits e = absurd (refuses_none _ _ edits e)
 acknowledged-of_system session s r (Some at) edits e =
     system_or_refused _ (rewrites 4 at (bookmark_values r.bookmark r.place) ∷ []) edits ((full_system 4 (at.1) (lit< tt), full_system 4 _ (lit< tt)), tt) e
 
-pub acknowledge-of_system : (session : ℕ) (s : State) (o : Option Reader) (edits : List CellEdit) → acknowledge session s o ≡ Makes edits → AreOfSystem edits
+pub acknowledge-of_system : (session : ℕ) (s : State) (o : Option Reader) (edits : List CellEdit) → acknowledge session s (reader_row s o) ≡ Makes edits → AreOfSystem edits
 acknowledge-of_system session s None edits e = absurd (refuses_none _ _ edits e)
 acknowledge-of_system session s (Some r) edits e = acknowledged-of_system session s r (bookmark r.bookmark s) edits e
 

@@ -8,8 +8,6 @@ use Rattle.tt_value.specs.declared.reply.Reply.{Reply}
 use Rattle.tt_value.specs.declared.reply.Reply.TheVariants.{Done}
 use Rattle.tt_parse.specs.declared.command.Command.{Command}
 use Rattle.tt_parse.specs.declared.command.Command.TheVariants.{CreateTable, DropTable, CreateIndex, DropIndex, Insert, Update, Delete, Select, Commit as CommitLine, Rollback, DurableCommit, Flush, Ckpt, CkptBlocking, LogHolds, Bookmark, Backup as BackupLine, XlaCreate, XlaDelete, XlaSubscribe, XlaUnsubscribe, XlaOpen, XlaNext, XlaAcknowledge, XlaClose}
-use Rattle.tt_parse.specs.declared.command.BackupKind.{BackupKind}
-use Rattle.tt_parse.specs.declared.command.BackupKind.TheVariants.{Full, FullEnable, Incremental, IncrOrFull, Stop}
 use Rattle.tt_record.specs.declared.entry.Entry.TheVariants.{Abort, Commit}
 use Rattle.tt_model.specs.Trail.{Trail}
 use Rattle.tt_model.specs.Committed.{Cells, committed}
@@ -17,12 +15,13 @@ use Rattle.tt_model.specs.Sets.{Readable, SetStanding}
 use Rattle.tt_model.specs.Tables.{PlacedRow}
 use Rattle.tt_model.specs.State.{Underway, Reader, State, all_forced, cells_of, live_in, new_among, next, reversals, trail, with_edit, with_edits, with_entry, write_position}
 use Rattle.tt_model.specs.declared.definition.CellEdit.{CellEdit}
-use Rattle.tt_model.specs.Meaning.{Gives, Makes, Meant, Refuses}
+use Rattle.tt_model.specs.Meaning.{Makes, Meant, Refuses, meant_by_select}
 use Rattle.tt_model.specs.System.{bookmark, deletes, reader_on}
-use Rattle.tt_model.specs.Backups.{backup_refusal, extended_now, full_now, kind_done, row_of_set, set_edit, with_set}
+use Rattle.tt_model.specs.Backups.{backup_refusal, extended_now, full_now, row_of_set, set_edit, with_set, SetWork, MakesSet, ContinuesSet, EndsSet, set_work}
 use Rattle.tt_model.specs.Checkpoint.{begin_checkpoint, complete_where_due, completed, copied, with_all_copies, with_completion, with_copies}
-use Rattle.tt_model.specs.Step.{Answers, Step, backed_up, backup_kind, backup_position, begun_reply, checkpoint_open, closed, commit_of, completion_after, edit_length, end_length, forced_where, given, given_to, is_durable, kept_read, least_open, line, made, made_in, next_read_of, no_checkpoint_number, no_number_for, no_position, no_skip, no_system_position, number_for, open_at, refused, rollback_lengths, rollback_of, rolled_back, session_ended, statement, system, system_done, unless_refused, with_reader}
+use Rattle.tt_model.specs.Step.{Answers, Step, backed_up, backup_position, begun_reply, checkpoint_open, closed, commit_of, completion_after, edit_length, end_length, forced_where, given, given_to, is_durable, kept_read, least_open, line, made, made_in, next_read_of, no_checkpoint_number, no_number_for, no_position, no_skip, no_system_position, number_for, open_at, refused, rollback_lengths, rollback_of, rolled_back, session_ended, statement, system, system_done, unless_refused, with_reader, backup_line}
 use Rattle.tt_model.specs.Run.{ended, ended_one, has_position, roll_all}
+use Rattle.tt_model.proofs.LineLemmas.{selected-has}
 
 -- Each first part of the new entries has it, by what is committed there.
 abbrev pub FirstPartsHave : (Cells → Type 0) → Cells → Trail → Type 0
@@ -79,7 +78,6 @@ module _ (Q : Cells → Type 0) where
 
   adds_statement : (session : ℕ) (m : Meant) (s : State) → StateHas Q s → Adds ((statement session m s).1)
   adds_statement session (Refuses r) s h = self s h
-  adds_statement session (Gives rows) s h = self s h
   adds_statement session (Makes edits) s h = adds_made session edits s h
 
   adds_commit : (session : ℕ) (o : Option ℕ) (s : State) → StateHas Q s → Adds ((commit_of session o s).1)
@@ -104,7 +102,6 @@ module _ (Q : Cells → Type 0) where
 
   adds_system : (m : Meant) (s : State) → StateHas Q s → Adds ((system m s).1)
   adds_system (Refuses r) s h = self s h
-  adds_system (Gives rows) s h = self s h
   adds_system (Makes edits) s h = unless (no_system_position edits s) Done (system_done edits s) s h (adds_done edits s h)
 
   -- ---- backups
@@ -121,16 +118,15 @@ module _ (Q : Cells → Type 0) where
       Adds (system_done (set_edit (row_of_set set s) set (write_position s) ∷ []) (with_set set standing (all_forced s)))
   adds_set set standing s h = adds_done (set_edit (row_of_set set s) set (write_position s) ∷ []) (with_set set standing (all_forced s)) (set_has set standing s h)
 
-  adds_backed_up : (set : ℕ) (kind : BackupKind) (s : State) → StateHas Q s → Adds ((backed_up set kind s).1)
-  adds_backed_up set Full s h = self (with_set set (Some (Readable (full_now s))) (all_forced s)) (set_has set (Some (Readable (full_now s))) s h)
-  adds_backed_up set FullEnable s h = adds_set set (Some (Readable (full_now s))) s h
-  adds_backed_up set Incremental s h = adds_set set (extended_now (s.sets set) s) s h
-  adds_backed_up set Stop s h = adds_stop s (row_of_set set s) h
-  adds_backed_up set IncrOrFull s h = self s h
+  adds_backed_up : (set : ℕ) (work : SetWork) (s : State) → StateHas Q s → Adds ((backed_up set work s).1)
+  adds_backed_up set (MakesSet false) s h = self (with_set set (Some (Readable (full_now s))) (all_forced s)) (set_has set (Some (Readable (full_now s))) s h)
+  adds_backed_up set (MakesSet true) s h = adds_set set (Some (Readable (full_now s))) s h
+  adds_backed_up set ContinuesSet s h = adds_set set (extended_now (s.sets set) s) s h
+  adds_backed_up set EndsSet s h = adds_stop s (row_of_set set s) h
 
-  adds_backup : (session set : ℕ) (kind : BackupKind) (s : State) → StateHas Q s → Adds ((backup_kind session set kind s).1)
-  adds_backup session set kind s h =
-      unless (option_or (backup_refusal session s set kind) (backup_position set kind s)) ((backed_up set kind s).0) ((backed_up set kind s).1) s h (adds_backed_up set kind s h)
+  adds_backup : (session set : ℕ) (work : SetWork) (s : State) → StateHas Q s → Adds ((backup_line session set work s).1)
+  adds_backup session set work s h =
+      unless (option_or (backup_refusal session s set work) (backup_position set work s)) ((backed_up set work s).0) ((backed_up set work s).1) s h (adds_backed_up set work s h)
 
   -- ---- readers and checkpoints
 
@@ -194,7 +190,7 @@ module _ (Q : Cells → Type 0) where
   adds_line session (Insert table values) s h = adds_statement session _ s h
   adds_line session (Update table sets condition) s h = adds_statement session _ s h
   adds_line session (Delete table condition) s h = adds_statement session _ s h
-  adds_line session (Select table items condition order) s h = adds_statement session _ s h
+  adds_line session (Select table items condition order) s h = selected-has Adds (meant_by_select session s table items condition order) s (self s h)
   adds_line session CommitLine s h = adds_commit session (s.own session) s h
   adds_line session Rollback s h = adds_rollback session (s.own session) s h
   adds_line session DurableCommit s h = self s h
@@ -213,7 +209,7 @@ module _ (Q : Cells → Type 0) where
   adds_line session (XlaOpen x) s h = adds_opened session x s (is_some (s.reader session)) h
   adds_line session (XlaNext count) s h = adds_given session (s.reader session) count s h
   adds_line session XlaClose s h = adds_closed session (s.reader session) s h
-  adds_line session (BackupLine set kind) s h = adds_backup session set (kind_done kind set s) s h
+  adds_line session (BackupLine set kind) s h = adds_backup session set (set_work kind set s) s h
   adds_line session Ckpt s h = unless (option_or (checkpoint_open s) (no_checkpoint_number s)) (begun_reply s) (begin_checkpoint s) s h (through_begin s (self s h))
   adds_line session CkptBlocking s h =
       let begun : State = begin_checkpoint s in

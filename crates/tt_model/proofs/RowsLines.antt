@@ -10,22 +10,20 @@ use Rattle.tt_value.specs.declared.position.Position.{Position}
 use Rattle.tt_value.specs.declared.value.Cell.TheVariants.{Full as FullCell}
 use Rattle.tt_parse.specs.declared.command.Command.{Command}
 use Rattle.tt_parse.specs.declared.command.Command.TheVariants.{CreateTable, DropTable, CreateIndex, DropIndex, Insert, Update, Delete, Select, Commit as CommitLine, Rollback, DurableCommit, Flush, Ckpt, CkptBlocking, LogHolds, Bookmark, Backup as BackupLine, XlaCreate, XlaDelete, XlaSubscribe, XlaUnsubscribe, XlaOpen, XlaNext, XlaAcknowledge, XlaClose}
-use Rattle.tt_parse.specs.declared.command.BackupKind.{BackupKind}
-use Rattle.tt_parse.specs.declared.command.BackupKind.TheVariants.{Full, FullEnable, Incremental, IncrOrFull, Stop}
 use Rattle.tt_model.specs.Sets.{Readable, SetStanding}
 use Rattle.tt_model.specs.Tables.{PlacedRow, Table, index_named, table_named, table_with}
 use Rattle.tt_model.specs.State.{Underway, Reader, State, all_forced, catalog, cells_of, live_in, write_position}
 use Rattle.tt_model.specs.declared.definition.CellEdit.{CellEdit}
 use Rattle.tt_model.specs.Meaning.{Makes, meant_by_delete, meant_by_insert, meant_by_select, meant_by_update}
 use Rattle.tt_model.specs.System.{bookmark, deletes, meant_by_acknowledge, meant_by_create_index, meant_by_delete_bookmark, meant_by_drop_index, meant_by_drop_table, meant_by_subscribe, meant_by_unsubscribe, reader_on}
-use Rattle.tt_model.specs.Backups.{backup_refusal, extended_now, full_now, kind_done, row_of_set, set_edit, with_set}
+use Rattle.tt_model.specs.Backups.{backup_refusal, extended_now, full_now, row_of_set, set_edit, with_set, SetWork, MakesSet, ContinuesSet, EndsSet, set_work}
 use Rattle.tt_model.specs.Sound.{IsSound}
 use Rattle.tt_model.specs.Checkpoint.{begin_checkpoint, complete_where_due, completed, copied, with_all_copies, with_completion, with_copies}
-use Rattle.tt_model.specs.Step.{Answers, Step, backed_up, backup_kind, backup_position, begun_reply, checkpoint_open, closed, completion_after, given, kept_read, least_open, line, no_checkpoint_number, number_for, open_at, refused, system_done, with_reader, no_skip, next_read_of, given_to}
+use Rattle.tt_model.specs.Step.{Answers, Step, backed_up, backup_position, begun_reply, checkpoint_open, closed, completion_after, given, kept_read, least_open, line, no_checkpoint_number, number_for, open_at, refused, system_done, with_reader, no_skip, next_read_of, given_to, backup_line}
 use Rattle.tt_model.proofs.BookmarkLines.{may_good, may_new}
 use Rattle.tt_model.proofs.CatalogLemmas.{LeaveUserTables, not_held_user}
 use Rattle.tt_model.proofs.EditLemmas.{AreNew, fresh_entries}
-use Rattle.tt_model.proofs.LineLemmas.{AreSome, create_bookmark-new, create_table-new, select_nothing, subscribe_new}
+use Rattle.tt_model.proofs.LineLemmas.{AreSome, create_bookmark-new, create_table-new, subscribe_new, selected-has}
 use Rattle.tt_model.proofs.OneHolderStatements.{each-found}
 use Rattle.tt_model.proofs.SoundLines.{writes}
 use Rattle.tt_model.proofs.StatementLemmas.{delete-MayEdit, insert-MayEdit, table-user, update-MayEdit}
@@ -77,16 +75,15 @@ leaves_stop set s (Some at) e r =
     (good_rows s (map (deletes 6) (at ∷ [])) r (rows-good s 6 (at ∷ []) (lit< tt) (one_row 6 s at (set-lies set s at e)) tt) (deletes-of_system 6 (at ∷ []) (lit< tt))
     (λ m user has. deletes-elsewhere m 6 (at ∷ []) refl refl))
 
-leaves_backed_up : (set : ℕ) (kind : BackupKind) (s : State) → IsReady s → Leaves ((backed_up set kind s).1)
-leaves_backed_up set Full s r = leaves-self (with_set set (Some (Readable (full_now s))) (all_forced s)) (ready-with_set set (Some (Readable (full_now s))) s r)
-leaves_backed_up set FullEnable s r = leaves_set set (Some (Readable (full_now s))) s r
-leaves_backed_up set Incremental s r = leaves_set set (extended_now (s.sets set) s) s r
-leaves_backed_up set Stop s r = leaves_stop set s (row_of_set set s) refl r
-leaves_backed_up set IncrOrFull s r = leaves-self s r
+leaves_backed_up : (set : ℕ) (work : SetWork) (s : State) → IsReady s → Leaves ((backed_up set work s).1)
+leaves_backed_up set (MakesSet false) s r = leaves-self (with_set set (Some (Readable (full_now s))) (all_forced s)) (ready-with_set set (Some (Readable (full_now s))) s r)
+leaves_backed_up set (MakesSet true) s r = leaves_set set (Some (Readable (full_now s))) s r
+leaves_backed_up set ContinuesSet s r = leaves_set set (extended_now (s.sets set) s) s r
+leaves_backed_up set EndsSet s r = leaves_stop set s (row_of_set set s) refl r
 
-leaves_backup : (session set : ℕ) (kind : BackupKind) (s : State) → IsReady s → Leaves ((backup_kind session set kind s).1)
-leaves_backup session set kind s r =
-    leaves-unless (option_or (backup_refusal session s set kind) (backup_position set kind s)) ((backed_up set kind s).0) ((backed_up set kind s).1) s (leaves-self s r) (leaves_backed_up set kind s r)
+leaves_backup : (session set : ℕ) (work : SetWork) (s : State) → IsReady s → Leaves ((backup_line session set work s).1)
+leaves_backup session set work s r =
+    leaves-unless (option_or (backup_refusal session s set work) (backup_position set work s)) ((backed_up set work s).0) ((backed_up set work s).1) s (leaves-self s r) (leaves_backed_up set work s r)
 
 -- ---- readers
 
@@ -167,8 +164,7 @@ leaves_line session (Delete table condition) s r i =
       delete-MayEdit session s table condition edits r.sound e,
       delete_allowed session s condition (table_named table (catalog s)) edits e,
     ))
-leaves_line session (Select table items condition order) s r i =
-    leaves-statement session _ s r (λ edits e. absurd (select_nothing session s items condition order (table_named table (catalog s)) edits e))
+leaves_line session (Select table items condition order) s r i = selected-has Leaves (meant_by_select session s table items condition order) s (leaves-self s r)
 leaves_line session CommitLine s r i = leaves-commit session (s.own session) s r refl
 leaves_line session Rollback s r i = leaves-rollback session (s.own session) s r refl
 leaves_line session DurableCommit s r i = leaves-self s r
@@ -210,7 +206,7 @@ leaves_line session XlaAcknowledge s r i =
 leaves_line session (XlaOpen x) s r i = leaves_opened session x s (is_some (s.reader session)) (leaves-self s r)
 leaves_line session (XlaNext count) s r i = leaves_given session (s.reader session) count s (leaves-self s r)
 leaves_line session XlaClose s r i = leaves_closed session (s.reader session) s (leaves-self s r)
-leaves_line session (BackupLine set kind) s r i = leaves_backup session set (kind_done kind set s) s r
+leaves_line session (BackupLine set kind) s r i = leaves_backup session set (set_work kind set s) s r
 leaves_line session Ckpt s r i =
     leaves-unless (option_or (checkpoint_open s) (no_checkpoint_number s)) (begun_reply s) (begin_checkpoint s) s (leaves-self s r) (through_begin s (leaves-self s r))
 leaves_line session CkptBlocking s r i =

@@ -258,9 +258,9 @@ module _ (session : ℕ) (s : State) (t : Table) (found : table_with t.id (catal
       let new : List (ℕ × Value) = set_values t (r.1) sets in
       let row : Row = record { values = with_values new ((r.1).values) } in
       let edit : CellEdit = record { place = Some (r.0); before = full t (r.1); after = full t row } in
-      let first : (update_row_refusal session s t new r row all ≡ None) × HasFirst edit (update_rows session s t sets (with_row (r.0, row) all) rest) edits
-      = unless_row-first (update_row_refusal session s t new r row all) edit (update_rows session s t sets (with_row (r.0, row) all) rest) edits m in
-      let tests = each_none (update_row_tests session s t new r row all) (first.0) in
+      let first : (update_row_refusal session s t (record { before = r; after = row; values = new; seen = all }) ≡ None) × HasFirst edit (update_rows session s t sets (with_row (r.0, row) all) rest) edits
+      = unless_row-first (update_row_refusal session s t (record { before = r; after = row; values = new; seen = all })) edit (update_rows session s t sets (with_row (r.0, row) all) rest) edits m in
+      let tests = each_none (update_row_tests session s t (record { before = r; after = row; values = new; seen = all })) (first.0) in
       let after : seen_in n (with_edit n edit now) ≡ put (r.0) (full t row) (seen_in n now) = seen-edit n edit now in
       let others : AreAllowed (catalog s) n ((first.1).others) (with_edit n edit now)
       = updates_allowed (with_row (r.0, row) all) rest ((first.1).others) (with_edit n edit now) ((first.1).made)

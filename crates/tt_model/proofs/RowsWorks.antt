@@ -12,7 +12,7 @@ use Rattle.tt_model.specs.Live.{in_use, is_live, live, touched}
 use Rattle.tt_model.specs.Tables.{Catalog, row_in}
 use Rattle.tt_model.specs.State.{State, all_forced, bound, catalog, cells_of, next, reversals, trail, with_edits, with_entry}
 use Rattle.tt_model.specs.declared.definition.CellEdit.{CellEdit}
-use Rattle.tt_model.specs.Meaning.{Meant, Gives, Makes, Refuses}
+use Rattle.tt_model.specs.Meaning.{Meant, Makes, Refuses}
 use Rattle.tt_model.specs.Sound.{IsSound, MayEdit}
 use Rattle.tt_model.specs.Step.{commit_of, edit_length, end_length, forced_where, is_durable, made, made_in, no_number_for, no_position, no_system_position, number_for, rollback_lengths, rollback_of, rolled_back, session_ended, statement, system, system_done, unless_refused}
 use Rattle.tt_model.specs.WholeRuns.{HeldOnce}
@@ -88,7 +88,6 @@ leaves-made session (e ∷ es) s r may allowed =
 pub leaves-statement : (session : ℕ) (m : Meant) (s : State) → IsReady s →
     ((edits : List CellEdit) → m ≡ Makes edits → MayEdit (number_for (s.own session) s) edits s × AreAllowed (catalog s) (number_for (s.own session) s) edits s) → Leaves ((statement session m s).1)
 leaves-statement session (Refuses x) s r f = leaves-self s r
-leaves-statement session (Gives rows) s r f = leaves-self s r
 leaves-statement session (Makes edits) s r f = leaves-made session edits s r ((f edits refl).0) ((f edits refl).1)
 
 -- ---- commits and rollbacks
@@ -142,7 +141,6 @@ leaves-system_done edits s r m own =
 
 pub leaves-system_by : (m : Meant) (s : State) → IsReady s → ((edits : List CellEdit) → m ≡ Makes edits → Leaves (system_done edits s)) → Leaves ((system m s).1)
 leaves-system_by (Refuses x) s r f = leaves-self s r
-leaves-system_by (Gives rows) s r f = leaves-self s r
 leaves-system_by (Makes edits) s r f = leaves-unless (no_system_position edits s) Done (system_done edits s) s (leaves-self s r) (f edits refl)
 
 pub leaves-system : (m : Meant) (s : State) → IsReady s → ((edits : List CellEdit) → m ≡ Makes edits → LeaveRows s edits) → Leaves ((system m s).1)

@@ -174,8 +174,8 @@ unless_row-first None edit rest edits h = (refl, and_edit-first edit rest edits 
 unless_row-first (Some r) edit rest edits h = let no : ⊥ = cc in absurd no
 
 update_key : (session : ℕ) (s : State) (t : Table) (new : List (ℕ × Value)) (r : PlacedRow) (row : Row) (rows : List PlacedRow) →
-    update_row_refusal session s t new r row rows ≡ None → conflict (s.own session) (trail s) (key_name t (r.1)) ≡ None
-update_key session s t new r row rows h = (((((each_none (update_row_tests session s t new r row rows) h).1).1).1).1).0
+    update_row_refusal session s t (record { before = r; after = row; values = new; seen = rows }) ≡ None → conflict (s.own session) (trail s) (key_name t (r.1)) ≡ None
+update_key session s t new r row rows h = (((((each_none (update_row_tests session s t (record { before = r; after = row; values = new; seen = rows })) h).1).1).1).1).0
 
 updates_made : (session : ℕ) (s : State) (t : Table) (sets : List SetItem) (all rest : List PlacedRow) (edits : List CellEdit) →
     update_rows session s t sets all rest ≡ Ok edits → MadeOf t rest edits × FreeKeys session s t rest
@@ -184,8 +184,8 @@ updates_made session s t sets all (r ∷ rest) edits h =
     let new : List (ℕ × Value) = set_values t (r.1) sets in
     let row : Row = record { values = with_values new ((r.1).values) } in
     let edit : CellEdit = record { place = Some (r.0); before = full t (r.1); after = full t row } in
-    let first : (update_row_refusal session s t new r row all ≡ None) × HasFirst edit (update_rows session s t sets (with_row (r.0, row) all) rest) edits
-    = unless_row-first (update_row_refusal session s t new r row all) edit (update_rows session s t sets (with_row (r.0, row) all) rest) edits h in
+    let first : (update_row_refusal session s t (record { before = r; after = row; values = new; seen = all }) ≡ None) × HasFirst edit (update_rows session s t sets (with_row (r.0, row) all) rest) edits
+    = unless_row-first (update_row_refusal session s t (record { before = r; after = row; values = new; seen = all })) edit (update_rows session s t sets (with_row (r.0, row) all) rest) edits h in
     let others : MadeOf t rest ((first.1).others) × FreeKeys session s t rest
     = updates_made session s t sets (with_row (r.0, row) all) rest ((first.1).others) ((first.1).made) in
     (subst (MadeOf t (r ∷ rest)) ((first.1).whole) (refl, refl, others.0), (update_key session s t new r row all (first.0), others.1))
@@ -282,8 +282,8 @@ updates_of_users session s t sets all (r ∷ rest) edits user h =
     let new : List (ℕ × Value) = set_values t (r.1) sets in
     let row : Row = record { values = with_values new ((r.1).values) } in
     let edit : CellEdit = record { place = Some (r.0); before = full t (r.1); after = full t row } in
-    let first : (update_row_refusal session s t new r row all ≡ None) × HasFirst edit (update_rows session s t sets (with_row (r.0, row) all) rest) edits
-    = unless_row-first (update_row_refusal session s t new r row all) edit (update_rows session s t sets (with_row (r.0, row) all) rest) edits h in
+    let first : (update_row_refusal session s t (record { before = r; after = row; values = new; seen = all }) ≡ None) × HasFirst edit (update_rows session s t sets (with_row (r.0, row) all) rest) edits
+    = unless_row-first (update_row_refusal session s t (record { before = r; after = row; values = new; seen = all })) edit (update_rows session s t sets (with_row (r.0, row) all) rest) edits h in
     subst AreOfUsers ((first.1).whole) (
       λ table low. both_false (has_held (whole_table table) (full t (r.1))) (has_held (whole_table table) (full t row)) (full_of_user table t (r.1) low user) (full_of_user table t row low user),
       updates_of_users session s t sets (with_row (r.0, row) all) rest ((first.1).others) user ((first.1).made),

@@ -20,13 +20,13 @@ use Rattle.tt_model.specs.Run.{opened, begun}
 use Rattle.tt_model.proofs.AppendLemmas.{forced_for-most, forced_for-least}
 use Rattle.tt_model.proofs.PositionLemmas.{next_place-onward}
 use Rattle.tt_model.proofs.SoundLines.{sound-all_forced, sound-with_copies, sound-completion_after, sound-begin_checkpoint, sound-with_all_copies, sound-with_completion}
-use Rattle.tt_model.proofs.LineLemmas.{sound-unless, sound-system_new, sound-statement, sound-select, create_table-new, create_index_new, create_bookmark-new, subscribe_new, sound-commit_of, sound-rollback_of, sound_opened_if, sound-given, sound-closed}
+use Rattle.tt_model.proofs.LineLemmas.{sound-unless, sound-system_new, sound-statement, create_table-new, create_index_new, create_bookmark-new, subscribe_new, sound-commit_of, sound-rollback_of, sound_opened_if, sound-given, sound-closed, selected-has}
 use Rattle.tt_model.proofs.StatementLemmas.{insert-MayEdit, update-MayEdit, delete-MayEdit, insert-users, update-users, delete-users}
 use Rattle.tt_model.proofs.SystemLines.{sound-system_rows, drop_table-good, drop_index-good, delete_bookmark-good, unsubscribe-good, acknowledge-good, sound-backup_kind}
 use Rattle.tt_parse.specs.declared.command.Command.TheVariants.{CreateTable, DropTable, CreateIndex, DropIndex, Insert, Update, Delete, Select, Commit as CommitLine, Rollback, DurableCommit, Flush, Ckpt, CkptBlocking, LogHolds, Bookmark, Backup as BackupLine, XlaCreate, XlaDelete, XlaSubscribe, XlaUnsubscribe, XlaOpen, XlaNext, XlaAcknowledge, XlaClose}
 use Rattle.std.specs.Option.{option_or}
-use Rattle.tt_model.specs.Meaning.{meant_by_insert, meant_by_update, meant_by_delete}
-use Rattle.tt_model.specs.Backups.{kind_done}
+use Rattle.tt_model.specs.Meaning.{meant_by_insert, meant_by_update, meant_by_delete, meant_by_select}
+use Rattle.tt_model.specs.Backups.{set_work}
 
 -- Each line.
 pub sound-line : (session : ℕ) (command : Command) (s : State) → IsSound s → IsSound ((line session command s).1)
@@ -34,7 +34,7 @@ unfolding line
 sound-line session (Insert table values) s h = sound-statement session (meant_by_insert session s table values) s h (λ edits m. (insert-users session s table values edits h m, insert-MayEdit session s table values edits h m))
 sound-line session (Update table sets cond) s h = sound-statement session (meant_by_update session s table sets cond) s h (λ edits m. (update-users session s table sets cond edits h m, update-MayEdit session s table sets cond edits h m))
 sound-line session (Delete table cond) s h = sound-statement session (meant_by_delete session s table cond) s h (λ edits m. (delete-users session s table cond edits h m, delete-MayEdit session s table cond edits h m))
-sound-line session (Select table items cond order) s h = sound-select session s table items cond order h
+sound-line session (Select table items cond order) s h = selected-has IsSound (meant_by_select session s table items cond order) s h
 sound-line session CommitLine s h = sound-commit_of session (s.own session) s h refl
 sound-line session Rollback s h = sound-rollback_of session (s.own session) s h refl
 sound-line session DurableCommit s h = record { entries = h.entries; owned = h.owned; catalog = h.catalog }
@@ -48,7 +48,7 @@ sound-line session (XlaSubscribe table name) s h = sound-system_new _ s h (λ ed
 sound-line session (XlaOpen name) s h = sound_opened_if session name s (is_some (s.reader session)) h
 sound-line session (XlaNext count) s h = sound-given session (s.reader session) count s h
 sound-line session XlaClose s h = sound-closed session (s.reader session) s h
-sound-line session (BackupLine set kind) s h = sound-backup_kind session set (kind_done kind set s) s h
+sound-line session (BackupLine set kind) s h = sound-backup_line session set (set_work kind set s) s h
 sound-line session Ckpt s h = sound-unless (option_or (checkpoint_open s) (no_checkpoint_number s)) _ _ s h (sound-begin_checkpoint s h)
 sound-line session CkptBlocking s h =
     sound-unless (option_or (checkpoint_open s) (option_or (least_open (live_in s)) (no_checkpoint_number s))) _ _ s h

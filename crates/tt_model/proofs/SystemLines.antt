@@ -11,17 +11,15 @@ use Rattle.tt_value.specs.declared.position.Position.{Position}
 use Rattle.tt_value.specs.declared.refusal.Refusal.{Refusal}
 use Rattle.tt_value.specs.declared.refusal.Refusal.TheVariants.{NotSubscribed, NoBookmark}
 use Rattle.tt_value.specs.declared.value.Cell.TheVariants.{Full as FullCell}
-use Rattle.tt_parse.specs.declared.command.BackupKind.{BackupKind}
-use Rattle.tt_parse.specs.declared.command.BackupKind.TheVariants.{Full, FullEnable, Incremental, IncrOrFull, Stop}
 use Rattle.tt_model.specs.Tables.{Table, Index, PlacedRow, in_order, inserted, by_number, by_text, with_number_at, with_text_at, number_at, text_at, table_named, index_named, table_of, index_of, catalog_of}
-use Rattle.tt_model.specs.Meaning.{Meant, Makes, Refuses, Gives, unless, first_of, refused_if}
-use Rattle.tt_model.specs.System.{system_rows, in_transaction, deletes, rewrites, bookmark, bookmark_values, subscription, delete_bookmark, unsubscribe, acknowledge, acknowledge_in, drop_table, drop_index, meant_by_delete_bookmark, meant_by_unsubscribe, meant_by_acknowledge, meant_by_drop_table, meant_by_drop_index}
-use Rattle.tt_model.specs.Backups.{row_of_set, set_edit, full_now, extended_now, with_set, backup_refusal}
+use Rattle.tt_model.specs.Meaning.{Meant, Makes, Refuses, unless, first_of, refused_if}
+use Rattle.tt_model.specs.System.{system_rows, in_transaction, deletes, rewrites, bookmark, bookmark_values, subscription, delete_bookmark, unsubscribe, acknowledge, drop_table, drop_index, meant_by_delete_bookmark, meant_by_unsubscribe, meant_by_acknowledge, meant_by_drop_table, meant_by_drop_index, reader_at, reader_row}
+use Rattle.tt_model.specs.Backups.{row_of_set, set_edit, full_now, extended_now, with_set, backup_refusal, SetWork, MakesSet, ContinuesSet, EndsSet}
 use Rattle.tt_model.specs.Sets.{Readable, SetStanding}
 use Rattle.tt_model.specs.State.{State, Reader, next, cells_of, bound, catalog, write_position, all_forced}
 use Rattle.tt_model.specs.declared.definition.CellEdit.{CellEdit}
 use Rattle.tt_model.specs.Sound.{IsSound}
-use Rattle.tt_model.specs.Step.{system, system_done, no_system_position, backup_position, backup_kind}
+use Rattle.tt_model.specs.Step.{system, system_done, no_system_position, backup_position, backup_line}
 use Rattle.tt_model.proofs.SoundLines.{sound-all_forced, sound-system_done}
 use Rattle.tt_model.proofs.EditLemmas.{AreApart, new-MayEdit}
 use Rattle.tt_model.proofs.RowLemmas.{AreRows, are_rows-rows_of, are_rows-filter, are_rows-in_order}
@@ -43,7 +41,6 @@ sound-good (e ∷ es) s h g = sound-system_done e es s h g.leave (of_rows-MayEdi
 
 pub sound-system_rows : (m : Meant) (s : State) → IsSound s → ((edits : List CellEdit) → m ≡ Makes edits → AreGood s edits) → IsSound ((system m s).1)
 sound-system_rows (Refuses r) s h f = h
-sound-system_rows (Gives rows) s h f = h
 sound-system_rows (Makes edits) s h f = sound-unless (no_system_position edits s) _ _ s h (sound-good edits s h (f edits refl))
 
 good_or_refused : (s : State) (o : Option Refusal) (es edits : List CellEdit) → AreGood s es → unless o (Makes es) ≡ Makes edits → AreGood s edits
@@ -137,13 +134,13 @@ rewrite-good s table r values low l u = record {
 }
 
 acknowledge_good : (session : ℕ) (s : State) (r : Reader) (o : Option PlacedRow) (edits : List CellEdit) → bookmark r.bookmark s ≡ o →
-    acknowledge_in session s r o ≡ Makes edits → AreGood s edits
+    acknowledge session s (reader_at r o) ≡ Makes edits → AreGood s edits
 acknowledge_good session s r None edits e h = absurd (refuses_none _ _ edits h)
 acknowledge_good session s r (Some at) edits e h =
-    good_or_refused s (in_transaction session s) (rewrites 4 at (bookmark_values r.bookmark r.place) ∷ []) edits
+    good_or_refused s (first_of (in_transaction session s ∷ [])) (rewrites 4 at (bookmark_values r.bookmark r.place) ∷ []) edits
     (rewrite-good s 4 at (bookmark_values r.bookmark r.place) (lit< tt) (bookmark-lies r.bookmark s at e) (not_held_user _ refl, tt)) h
 
-reader_good : (session : ℕ) (s : State) (o : Option Reader) (edits : List CellEdit) → acknowledge session s o ≡ Makes edits → AreGood s edits
+reader_good : (session : ℕ) (s : State) (o : Option Reader) (edits : List CellEdit) → acknowledge session s (reader_row s o) ≡ Makes edits → AreGood s edits
 reader_good session s None edits h = absurd (refuses_none _ _ edits h)
 reader_good session s (Some r) edits h = acknowledge_good session s r (bookmark r.bookmark s) edits refl h
 
@@ -266,14 +263,12 @@ sound-stop : (set : ℕ) (s : State) (o : Option PlacedRow) → row_of_set set s
 sound-stop set s None e h = h
 sound-stop set s (Some r) e h = sound-good (map (deletes 6) (r ∷ [])) s h (rows-good s 6 (r ∷ []) (lit< tt) (one_row 6 s r (set-lies set s r e)) tt)
 
-pub sound-backup_kind : (session set : ℕ) (kind : BackupKind) (s : State) → IsSound s → IsSound ((backup_kind session set kind s).1)
-sound-backup_kind session set Full s h =
-    sound-unless (option_or (backup_refusal session s set Full) (backup_position set Full s)) _ _ s h (sound-with_set set (Some (Readable (full_now s))) s h)
-sound-backup_kind session set FullEnable s h =
-    sound-unless (option_or (backup_refusal session s set FullEnable) (backup_position set FullEnable s)) _ _ s h (sound-set set (Some (Readable (full_now s))) s h)
-sound-backup_kind session set Incremental s h =
-    sound-unless (option_or (backup_refusal session s set Incremental) (backup_position set Incremental s)) _ _ s h (sound-set set (extended_now (s.sets set) s) s h)
-sound-backup_kind session set Stop s h =
-    sound-unless (option_or (backup_refusal session s set Stop) (backup_position set Stop s)) _ _ s h (sound-stop set s (row_of_set set s) refl h)
-sound-backup_kind session set IncrOrFull s h =
-    sound-unless (option_or (backup_refusal session s set IncrOrFull) (backup_position set IncrOrFull s)) _ _ s h h
+pub sound-backup_line : (session set : ℕ) (work : SetWork) (s : State) → IsSound s → IsSound ((backup_line session set work s).1)
+sound-backup_line session set (MakesSet false) s h =
+    sound-unless (option_or (backup_refusal session s set (MakesSet false)) (backup_position set (MakesSet false) s)) _ _ s h (sound-with_set set (Some (Readable (full_now s))) s h)
+sound-backup_line session set (MakesSet true) s h =
+    sound-unless (option_or (backup_refusal session s set (MakesSet true)) (backup_position set (MakesSet true) s)) _ _ s h (sound-set set (Some (Readable (full_now s))) s h)
+sound-backup_line session set ContinuesSet s h =
+    sound-unless (option_or (backup_refusal session s set ContinuesSet) (backup_position set ContinuesSet s)) _ _ s h (sound-set set (extended_now (s.sets set) s) s h)
+sound-backup_line session set EndsSet s h =
+    sound-unless (option_or (backup_refusal session s set EndsSet) (backup_position set EndsSet s)) _ _ s h (sound-stop set s (row_of_set set s) refl h)

@@ -27,7 +27,7 @@ use Rattle.tt_model.specs.Tables.{Table, Index, PlacedRow, row_in, row_at, rows_
 use Rattle.tt_model.specs.State.{State, Reader, trail, live_in, cells_of, bound, catalog}
 use Rattle.tt_model.specs.declared.definition.CellEdit.{CellEdit}
 use Rattle.tt_model.specs.Meaning.{Makes, unless, first_of, refused_if, full, rows_seen, rows_taken, cond_refusal, delete_row_refusal, insert_refusal, inserted_row, insert_into, delete_from, update_in, update_rows, update_row_refusal, sets_refusal, set_values, with_values, with_row, makes, no_room}
-use Rattle.tt_model.specs.System.{system_rows, in_transaction, deletes, adds, number, least_unused, column_rows, open_on, changes_table, cell_is_of, drop_table, drop_index, create_index, unsubscribe, subscription, delete_bookmark, bookmark, acknowledge, acknowledge_in, bookmark_values, rewrites, subscribe, has_twice, has_value_twice, meant_by_create_table, meant_by_create_bookmark}
+use Rattle.tt_model.specs.System.{system_rows, in_transaction, deletes, adds, number, least_unused, column_rows, open_on, changes_table, cell_is_of, drop_table, drop_index, create_index, unsubscribe, subscription, delete_bookmark, bookmark, acknowledge, bookmark_values, rewrites, subscribe, has_twice, has_value_twice, meant_by_create_table, meant_by_create_bookmark, reader_at, reader_row}
 use Rattle.tt_model.specs.Backups.{set_edit}
 use Rattle.tt_model.specs.Sound.{whole_table, IsSound}
 use Rattle.tt_model.specs.WholeRuns.{Each}
@@ -92,8 +92,8 @@ updates_of T session s t sets all (r ∷ rest) edits h m =
     let new : List (ℕ × Value) = set_values t (r.1) sets in
     let row : Row = record { values = with_values new ((r.1).values) } in
     let edit : CellEdit = record { place = Some (r.0); before = full t (r.1); after = full t row } in
-    let first : (update_row_refusal session s t new r row all ≡ None) × HasFirst edit (update_rows session s t sets (with_row (r.0, row) all) rest) edits
-    = unless_row-first (update_row_refusal session s t new r row all) edit (update_rows session s t sets (with_row (r.0, row) all) rest) edits m in
+    let first : (update_row_refusal session s t (record { before = r; after = row; values = new; seen = all }) ≡ None) × HasFirst edit (update_rows session s t sets (with_row (r.0, row) all) rest) edits
+    = unless_row-first (update_row_refusal session s t (record { before = r; after = row; values = new; seen = all })) edit (update_rows session s t sets (with_row (r.0, row) all) rest) edits m in
     subst (AllOf T) ((first.1).whole) (
       (λ n y. elim (or_cases (has_held (whole_table n) (full t (r.1))) (has_held (whole_table n) (full t row)) y) [ inl k ↦ of_table T t n (r.1) h k | inr k ↦ of_table T t n row h k ]),
       updates_of T session s t sets (with_row (r.0, row) all) rest ((first.1).others) h ((first.1).made),
@@ -384,13 +384,13 @@ delete_bookmark-elsewhere m session s name (Some r) edits e =
     elsewhere_or_refused m _ (map (deletes 5) rows ++ map (deletes 4) (r ∷ [])) edits
     (elsewhere-append m (map (deletes 5) rows) (map (deletes 4) (r ∷ [])) (deletes-elsewhere m 5 rows refl refl) (deletes-elsewhere m 4 (r ∷ []) refl refl)) e
 
-acknowledged-elsewhere : (m session : ℕ) (s : State) (r : Reader) (o : Option PlacedRow) (edits : List CellEdit) → acknowledge_in session s r o ≡ Makes edits → AreElsewhere m edits
+acknowledged-elsewhere : (m session : ℕ) (s : State) (r : Reader) (o : Option PlacedRow) (edits : List CellEdit) → acknowledge session s (reader_at r o) ≡ Makes edits → AreElsewhere m edits
 acknowledged-elsewhere m session s r None edits e = absurd (refuses_none _ _ edits e)
 acknowledged-elsewhere m session s r (Some at) edits e =
-    elsewhere_or_refused m (in_transaction session s) (rewrites 4 at (bookmark_values r.bookmark r.place) ∷ []) edits
+    elsewhere_or_refused m (first_of (in_transaction session s ∷ [])) (rewrites 4 at (bookmark_values r.bookmark r.place) ∷ []) edits
     (record { before = record { table = refl; column = refl }; after = record { table = refl; column = refl }; index = refl }, tt) e
 
-pub acknowledge-elsewhere : (m session : ℕ) (s : State) (o : Option Reader) (edits : List CellEdit) → acknowledge session s o ≡ Makes edits → AreElsewhere m edits
+pub acknowledge-elsewhere : (m session : ℕ) (s : State) (o : Option Reader) (edits : List CellEdit) → acknowledge session s (reader_row s o) ≡ Makes edits → AreElsewhere m edits
 acknowledge-elsewhere m session s None edits e = absurd (refuses_none _ _ edits e)
 acknowledge-elsewhere m session s (Some r) edits e = acknowledged-elsewhere m session s r (bookmark r.bookmark s) edits e
 

@@ -11,8 +11,6 @@ use Rattle.tt_value.specs.declared.position.Position.{Position}
 use Rattle.tt_value.specs.declared.value.Cell.TheVariants.{Full as FullCell}
 use Rattle.tt_parse.specs.declared.command.Command.{Command}
 use Rattle.tt_parse.specs.declared.command.Command.TheVariants.{CreateTable, DropTable, CreateIndex, DropIndex, Insert, Update, Delete, Select, Commit as CommitLine, Rollback, DurableCommit, Flush, Ckpt, CkptBlocking, LogHolds, Bookmark, Backup as BackupLine, XlaCreate, XlaDelete, XlaSubscribe, XlaUnsubscribe, XlaOpen, XlaNext, XlaAcknowledge, XlaClose}
-use Rattle.tt_parse.specs.declared.command.BackupKind.{BackupKind}
-use Rattle.tt_parse.specs.declared.command.BackupKind.TheVariants.{Full, FullEnable, Incremental, IncrOrFull, Stop}
 use Rattle.tt_record.specs.declared.entry.Entry.TheVariants.{Commit, Abort}
 use Rattle.tt_model.specs.Trail.{Trail}
 use Rattle.tt_model.specs.Committed.{Cells}
@@ -22,18 +20,18 @@ use Rattle.tt_model.specs.Sets.{Readable, SetStanding}
 use Rattle.tt_model.specs.Tables.{PlacedRow, table_named, index_named}
 use Rattle.tt_model.specs.State.{State, Reader, Underway, live_in, next, catalog, cells_of, write_position, with_entry, with_edit, with_edits, all_forced, reversals}
 use Rattle.tt_model.specs.declared.definition.CellEdit.{CellEdit}
-use Rattle.tt_model.specs.Meaning.{Meant, Makes, Refuses, Gives, meant_by_insert, meant_by_update, meant_by_delete, meant_by_select}
+use Rattle.tt_model.specs.Meaning.{Meant, Makes, Refuses, meant_by_insert, meant_by_update, meant_by_delete, meant_by_select}
 use Rattle.tt_model.specs.System.{bookmark, reader_on, deletes, meant_by_create_index, meant_by_subscribe, meant_by_drop_table, meant_by_drop_index, meant_by_delete_bookmark, meant_by_unsubscribe, meant_by_acknowledge}
-use Rattle.tt_model.specs.Backups.{kind_done, row_of_set, set_edit, full_now, extended_now, with_set, backup_refusal}
+use Rattle.tt_model.specs.Backups.{row_of_set, set_edit, full_now, extended_now, with_set, backup_refusal, SetWork, MakesSet, ContinuesSet, EndsSet, set_work}
 use Rattle.tt_model.specs.Sound.{whole_table, IsSound, MayEdit}
 use Rattle.tt_model.specs.Checkpoint.{begin_checkpoint, copied, with_copies, with_all_copies, complete_where_due, completed, with_completion}
-use Rattle.tt_model.specs.Step.{Step, Answers, line, unless_refused, forced_where, statement, made, made_in, number_for, no_number_for, no_position, no_system_position, edit_length, session_ended, is_durable, commit_of, rollback_of, rolled_back, rollback_lengths, end_length, system, system_done, open_at, given, closed, refused, kept_read, with_reader, backed_up, backup_position, backup_kind, checkpoint_open, no_checkpoint_number, least_open, begun_reply, completion_after, no_skip, given_to, next_read_of}
+use Rattle.tt_model.specs.Step.{Step, Answers, line, unless_refused, forced_where, statement, made, made_in, number_for, no_number_for, no_position, no_system_position, edit_length, session_ended, is_durable, commit_of, rollback_of, rolled_back, rollback_lengths, end_length, system, system_done, open_at, given, closed, refused, kept_read, with_reader, backed_up, backup_position, checkpoint_open, no_checkpoint_number, least_open, begun_reply, completion_after, no_skip, given_to, next_read_of, backup_line}
 use Rattle.tt_model.proofs.AppendLemmas.{cells-Abort}
 use Rattle.tt_model.proofs.SteadyLemmas.{is_in-without}
 use Rattle.tt_model.proofs.CatalogLemmas.{next-holds_nothing, not_held_user}
 use Rattle.tt_model.proofs.EndLemmas.{left_edits}
 use Rattle.tt_model.proofs.SoundLines.{writes}
-use Rattle.tt_model.proofs.LineLemmas.{select_nothing, create_table-new, create_index_new, create_bookmark-new, subscribe_new}
+use Rattle.tt_model.proofs.LineLemmas.{create_table-new, create_index_new, create_bookmark-new, subscribe_new, selected-has}
 use Rattle.tt_model.proofs.SystemLines.{set-lies, sound-with_set, rewrite-good, rows-good, one_row, drop_table-good, drop_index-good, delete_bookmark-good, unsubscribe-good, acknowledge-good}
 use Rattle.tt_model.proofs.BookmarkLemmas.{cells-with_edits, cells_forced}
 use Rattle.tt_model.proofs.BookmarkLines.{may_new, may_good}
@@ -122,7 +120,6 @@ leaves-made session (e ∷ es) s h k f =
 leaves-statement : (session : ℕ) (m : Meant) (s : State) → IsSound s → TablesAreThere s → ((edits : List CellEdit) → m ≡ Makes edits → AllOf (λ n. HasTable n (cells_of s)) edits) →
     KeepsTables s ((statement session m s).1)
 leaves-statement session (Refuses r) s h k f = leaves-self s k
-leaves-statement session (Gives rows) s h k f = leaves-self s k
 leaves-statement session (Makes edits) s h k f = leaves-made session edits s h k (f edits refl)
 
 -- ---- commits and rollbacks
@@ -177,7 +174,6 @@ leaves_system_done edits s h k may elsewhere m u l held =
 
 leaves-system : (m : Meant) (s : State) → IsSound s → TablesAreThere s → ((edits : List CellEdit) → m ≡ Makes edits → MayEdit (next s) edits s × LeaveHeld s edits) → KeepsTables s ((system m s).1)
 leaves-system (Refuses r) s h k f = leaves-self s k
-leaves-system (Gives rows) s h k f = leaves-self s k
 leaves-system (Makes edits) s h k f =
     leaves-unless (no_system_position edits s) Done (system_done edits s) s k (leaves_system_done edits s h k ((f edits refl).0) ((f edits refl).1))
 
@@ -207,16 +203,15 @@ leaves_stop set s (Some r) e h k =
     leaves_system_done (map (deletes 6) (r ∷ [])) s h k (may_good s (map (deletes 6) (r ∷ [])) h (rows-good s 6 (r ∷ []) (lit< tt) (one_row 6 s r (set-lies set s r e)) tt))
     (λ m u l held. deletes-elsewhere m 6 (r ∷ []) refl refl)
 
-leaves_backed_up : (set : ℕ) (kind : BackupKind) (s : State) → IsSound s → TablesAreThere s → KeepsTables s ((backed_up set kind s).1)
-leaves_backed_up set Full s h k = leaves_with_set set (Some (Readable (full_now s))) s k
-leaves_backed_up set FullEnable s h k = leaves_set set (Some (Readable (full_now s))) s h k
-leaves_backed_up set Incremental s h k = leaves_set set (extended_now (s.sets set) s) s h k
-leaves_backed_up set Stop s h k = leaves_stop set s (row_of_set set s) refl h k
-leaves_backed_up set IncrOrFull s h k = leaves-self s k
+leaves_backed_up : (set : ℕ) (work : SetWork) (s : State) → IsSound s → TablesAreThere s → KeepsTables s ((backed_up set work s).1)
+leaves_backed_up set (MakesSet false) s h k = leaves_with_set set (Some (Readable (full_now s))) s k
+leaves_backed_up set (MakesSet true) s h k = leaves_set set (Some (Readable (full_now s))) s h k
+leaves_backed_up set ContinuesSet s h k = leaves_set set (extended_now (s.sets set) s) s h k
+leaves_backed_up set EndsSet s h k = leaves_stop set s (row_of_set set s) refl h k
 
-leaves-backup : (session set : ℕ) (kind : BackupKind) (s : State) → IsSound s → TablesAreThere s → KeepsTables s ((backup_kind session set kind s).1)
-leaves-backup session set kind s h k =
-    leaves-unless (option_or (backup_refusal session s set kind) (backup_position set kind s)) ((backed_up set kind s).0) ((backed_up set kind s).1) s k (leaves_backed_up set kind s h k)
+leaves-backup : (session set : ℕ) (work : SetWork) (s : State) → IsSound s → TablesAreThere s → KeepsTables s ((backup_line session set work s).1)
+leaves-backup session set work s h k =
+    leaves-unless (option_or (backup_refusal session s set work) (backup_position set work s)) ((backed_up set work s).0) ((backed_up set work s).1) s k (leaves_backed_up set work s h k)
 
 -- ---- readers
 
@@ -286,8 +281,7 @@ leaves-line session (Update table sets condition) s h k =
     leaves-statement session _ s h k (λ edits m. update-of (λ x. HasTable x (cells_of s)) session s sets condition (table_named table (catalog s)) edits (λ t e. table-there s table t e) m)
 leaves-line session (Delete table condition) s h k =
     leaves-statement session _ s h k (λ edits m. delete-of (λ x. HasTable x (cells_of s)) session s condition (table_named table (catalog s)) edits (λ t e. table-there s table t e) m)
-leaves-line session (Select table items condition order) s h k =
-    leaves-statement session _ s h k (λ edits m. absurd (select_nothing session s items condition order (table_named table (catalog s)) edits m))
+leaves-line session (Select table items condition order) s h k = selected-has (KeepsTables s) (meant_by_select session s table items condition order) s (leaves-self s k)
 leaves-line session CommitLine s h k = leaves-commit session (s.own session) s h refl k
 leaves-line session Rollback s h k = leaves-rollback session (s.own session) s k
 leaves-line session DurableCommit s h k = leaves-self s k
@@ -318,7 +312,7 @@ leaves-line session XlaAcknowledge s h k =
 leaves-line session (XlaOpen x) s h k = leaves_opened session x s (is_some (s.reader session)) k
 leaves-line session (XlaNext count) s h k = leaves_given session (s.reader session) count s k
 leaves-line session XlaClose s h k = leaves_closed session (s.reader session) s k
-leaves-line session (BackupLine set kind) s h k = leaves-backup session set (kind_done kind set s) s h k
+leaves-line session (BackupLine set kind) s h k = leaves-backup session set (set_work kind set s) s h k
 leaves-line session Ckpt s h k =
     leaves-unless (option_or (checkpoint_open s) (no_checkpoint_number s)) (begun_reply s) (begin_checkpoint s) s k (through_begin s s (leaves-self s k))
 leaves-line session CkptBlocking s h k =

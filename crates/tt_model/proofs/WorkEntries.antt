@@ -5,24 +5,23 @@ use Rattle.tt_value.specs.declared.refusal.Refusal.{Refusal}
 use Rattle.tt_parse.specs.declared.command.Command.{Command}
 use Rattle.tt_parse.specs.declared.command.Command.TheVariants.{CreateTable, DropTable, CreateIndex, DropIndex, Insert, Update, Delete, Select, Commit as CommitLine, Rollback, DurableCommit, Flush, Ckpt, CkptBlocking, LogHolds, Bookmark, Backup as BackupLine, XlaCreate, XlaDelete, XlaSubscribe, XlaUnsubscribe, XlaOpen, XlaNext, XlaAcknowledge, XlaClose}
 use Rattle.tt_parse.specs.declared.command.BackupKind.{BackupKind}
-use Rattle.tt_parse.specs.declared.command.BackupKind.TheVariants.{Full, FullEnable, Incremental, IncrOrFull, Stop}
 use Rattle.tt_record.specs.declared.entry.Entry.{Entry}
 use Rattle.tt_record.specs.declared.entry.Entry.TheVariants.{Commit, Abort}
 use Rattle.tt_model.specs.Trail.{Placed}
 use Rattle.tt_model.specs.Tables.{PlacedRow}
-use Rattle.tt_model.specs.Meaning.{Meant, Refuses, Gives, Makes}
+use Rattle.tt_model.specs.Meaning.{Meant, Refuses, Makes}
 use Rattle.tt_model.specs.Live.{is_live}
 use Rattle.tt_model.specs.Sound.{MayWrite}
 use Rattle.tt_model.specs.Meant.{meant}
 use Rattle.tt_model.specs.System.{deletes}
-use Rattle.tt_model.specs.Backups.{backup_refusal, kind_done, row_of_set, set_edit}
+use Rattle.tt_model.specs.Backups.{backup_refusal, row_of_set, set_edit, SetWork, MakesSet, ContinuesSet, EndsSet, set_work}
 use Rattle.tt_model.specs.State.{State, all_forced, live_in, next, reversals, with_entry, write_position}
 use Rattle.tt_model.specs.declared.definition.CellEdit.{CellEdit}
 use Rattle.tt_model.specs.Step.{backup_position, checkpoint_open, edit_length, end_length, forced_where, is_durable, least_open, no_checkpoint_number, no_number, no_number_for, no_position, no_system_position, number_for, rollback_lengths}
 use Rattle.tt_model.specs.Run.{ended_one, has_position}
 use Rattle.tt_model.specs.WholeRuns.{Each}
 use Rattle.tt_model.specs.StepLaws.{EachOfWorks}
-use Rattle.tt_model.specs.Works.{Work, all_performed, changes, force_where, no_work, performed, rolled_entries, row_work, stop_works, system_work, unless_refused, with_entries, work_behind, work_of_all, work_of_blocking, work_of_commit, work_of_edits, work_of_rollback, work_of_statement, work_of_system, works_of, works_of_backup, works_of_kind, works_unless}
+use Rattle.tt_model.specs.Works.{Work, all_performed, changes, force_where, no_work, performed, rolled_entries, row_work, stop_works, system_work, unless_refused, with_entries, work_behind, work_of_all, work_of_blocking, work_of_commit, work_of_edits, work_of_rollback, work_of_statement, work_of_system, works_of, works_of_backup, works_unless, works_of_set}
 
 pub each-append : {X : Type 0} (P : X → Type 0) (xs ys : List X) → Each P xs → Each P ys → Each P (xs ++ ys)
 each-append P [] ys a b = b
@@ -64,11 +63,11 @@ have-all P (w ∷ ws) s ps h = have-all P ws (performed w s) (ps.1) (have-perfor
 
 -- ---- the works of a line
 
--- A backup of one of these kinds writes the row of its set.
-abbrev pub writes_row : BackupKind → Bool
-writes_row FullEnable = true
-writes_row Incremental = true
-writes_row kind = false
+-- A backup writes the row of its set where incremental ones are to follow.
+abbrev pub writes_row : SetWork → Bool
+writes_row (MakesSet enabled) = enabled
+writes_row ContinuesSet = true
+writes_row EndsSet = false
 
 -- What is known of a line's parts: its transaction's number is such that its end has the property, and so have the Changes of its edits.
 pub record PartsHave (P : Entry → Type 0) (N : ℕ → Type 0) (session : ℕ) (command : Command) (s : State) : Type 0 where
@@ -79,7 +78,7 @@ pub record PartsHave (P : Entry → Type 0) (N : ℕ → Type 0) (session : ℕ)
   pub may : (t : ℕ) → s.own session ≡ Some t → is_live t s.entries ≡ true
   pub edits : (edits : List CellEdit) (t : ℕ) → meant session command s ≡ Makes edits → MayWrite t s → N t → Each P (changes t edits s)
   pub reversed : (t : ℕ) → s.own session ≡ Some t → Each P (changes t (reversals t s.entries) s)
-  pub row : (set t : ℕ) (kind : BackupKind) → command ≡ BackupLine set kind → writes_row (kind_done kind set s) ≡ true → backup_refusal session s set (kind_done kind set s) ≡ None → N t →
+  pub row : (set t : ℕ) (kind : BackupKind) → command ≡ BackupLine set kind → writes_row (set_work kind set s) ≡ true → backup_refusal session s set (set_work kind set s) ≡ None → N t →
       Each P (changes t (set_edit (row_of_set set s) set (write_position s) ∷ []) (all_forced s))
   pub stopped : (set t : ℕ) (r : PlacedRow) → row_of_set set s ≡ Some r → N t → Each P (changes t (deletes 6 r ∷ []) s)
 
@@ -106,7 +105,6 @@ module _ (P : Entry → Type 0) (N : ℕ → Type 0) (session : ℕ) (command : 
 
   statement_each : (m : Meant) → meant session command s ≡ m → Each P (work_of_statement session m s).entries
   statement_each (Refuses r) is = tt
-  statement_each (Gives rows) is = tt
   statement_each (Makes edits) is = edits_each edits is
 
   commit_each : (o : Option ℕ) → s.own session ≡ o → Each P (work_of_commit session o s).entries
@@ -121,7 +119,6 @@ module _ (P : Entry → Type 0) (N : ℕ → Type 0) (session : ℕ) (command : 
 
   system_each : (m : Meant) → meant session command s ≡ m → Each P (work_of_system m s).entries
   system_each (Refuses r) is = tt
-  system_each (Gives rows) is = tt
   system_each (Makes edits) is =
       let second : Option Refusal = no_position (map edit_length edits ++ end_length ∷ []) s in
       unless_each (no_system_position edits s) (system_work edits s)
@@ -138,7 +135,7 @@ module _ (P : Entry → Type 0) (N : ℕ → Type 0) (session : ℕ) (command : 
   unfolding all_forced
   next_forced = refl
 
-  row_each : (set : ℕ) (kind : BackupKind) → command ≡ BackupLine set kind → writes_row (kind_done kind set s) ≡ true → backup_refusal session s set (kind_done kind set s) ≡ None → no_number s ≡ None → Each P (row_work set s).entries
+  row_each : (set : ℕ) (kind : BackupKind) → command ≡ BackupLine set kind → writes_row (set_work kind set s) ≡ true → backup_refusal session s set (set_work kind set s) ≡ None → no_number s ≡ None → Each P (row_work set s).entries
   row_each set kind is writes allowed none =
       let edits : List CellEdit = set_edit (row_of_set set s) set (write_position s) ∷ [] in
       let number : N (next (all_forced s)) = subst N (sym next_forced) (parts.next none) in
@@ -156,24 +153,23 @@ module _ (P : Entry → Type 0) (N : ℕ → Type 0) (session : ℕ) (command : 
         tt,
       )
 
-  backup_each : (set : ℕ) (kind done : BackupKind) → command ≡ BackupLine set kind → kind_done kind set s ≡ done → backup_refusal session s set done ≡ None → backup_position set done s ≡ None →
-      EachOfWorks P (works_of_backup set done s)
-  backup_each set kind Full is same allowed none = (tt, tt)
-  backup_each set kind FullEnable is same allowed none =
+  backup_each : (set : ℕ) (kind : BackupKind) (done : SetWork) → command ≡ BackupLine set kind → set_work kind set s ≡ done → backup_refusal session s set done ≡ None → backup_position set done s ≡ None →
+      EachOfWorks P (works_of_set set done s)
+  backup_each set kind (MakesSet false) is same allowed none = (tt, tt)
+  backup_each set kind (MakesSet true) is same allowed none =
       let second : Option Refusal = no_position (map edit_length (set_edit (row_of_set set s) set (write_position s) ∷ []) ++ end_length ∷ []) s in
       (tt, (row_each set kind is (ap writes_row same) (ap (backup_refusal session s set) same ∙ allowed) (none-first (no_number s) second none), tt))
-  backup_each set kind Incremental is same allowed none =
+  backup_each set kind ContinuesSet is same allowed none =
       let second : Option Refusal = no_position (map edit_length (set_edit (row_of_set set s) set (write_position s) ∷ []) ++ end_length ∷ []) s in
       (tt, (row_each set kind is (ap writes_row same) (ap (backup_refusal session s set) same ∙ allowed) (none-first (no_number s) second none), tt))
-  backup_each set kind Stop is same allowed none = stop_each set (row_of_set set s) refl none
-  backup_each set kind IncrOrFull is same allowed none = tt
+  backup_each set kind EndsSet is same allowed none = stop_each set (row_of_set set s) refl none
 
-  kind_each : (set : ℕ) (kind : BackupKind) → command ≡ BackupLine set kind → EachOfWorks P (works_of_kind session set (kind_done kind set s) s)
+  kind_each : (set : ℕ) (kind : BackupKind) → command ≡ BackupLine set kind → EachOfWorks P (works_of_backup session set (set_work kind set s) s)
   kind_each set kind is =
-      let done : BackupKind = kind_done kind set s in
+      let done : SetWork = set_work kind set s in
       let first : Option Refusal = backup_refusal session s set done in
       let second : Option Refusal = backup_position set done s in
-      works_each (option_or first second) (works_of_backup set done s)
+      works_each (option_or first second) (works_of_set set done s)
       (λ none. backup_each set kind done is refl (none-first first second none) (none-second first second none))
 
   blocking_each : Each P (work_of_blocking s).entries

@@ -12,8 +12,6 @@ use Rattle.tt_parse.specs.declared.command.Items.TheVariants.{All, Columns, Sums
 use Rattle.tt_parse.specs.declared.command.OrderItem.{OrderItem}
 use Rattle.tt_parse.specs.declared.cond.Cond.{Cond}
 use Rattle.tt_parse.specs.declared.command.Command.TheVariants.{CreateTable, DropTable, CreateIndex, DropIndex, Insert, Update, Delete, Select, Commit as CommitLine, Rollback, DurableCommit, Flush, Ckpt, CkptBlocking, LogHolds, Bookmark, Backup as BackupLine, XlaCreate, XlaDelete, XlaSubscribe, XlaUnsubscribe, XlaOpen, XlaNext, XlaAcknowledge, XlaClose}
-use Rattle.tt_parse.specs.declared.command.BackupKind.{BackupKind}
-use Rattle.tt_parse.specs.declared.command.BackupKind.TheVariants.{Full, FullEnable, Incremental, IncrOrFull, Stop}
 use Rattle.tt_record.specs.declared.entry.Entry.{Entry}
 use Rattle.tt_record.specs.declared.entry.Entry.TheVariants.{Change, Commit, Abort}
 use Rattle.tt_record.specs.Entry.{length_of}
@@ -24,18 +22,19 @@ use Rattle.tt_model.specs.Opened.{Opened}
 use Rattle.tt_model.specs.Forced.{forced_for}
 use Rattle.tt_model.specs.Live.{least_free, in_use, pages_after}
 use Rattle.tt_model.specs.Committed.{committed}
-use Rattle.tt_model.specs.Meaning.{Meant, Refuses, Gives, Makes, aggregate_refusal, aggregate_value, first_of, meant_by_select, select_in, select_refusal, shown, unless}
+use Rattle.tt_model.specs.Meaning.{Meant, Refuses, Makes, first_of, meant_by_select}
 use Rattle.tt_model.specs.Tables.{PlacedRow, Table, table_named}
 use Rattle.tt_model.specs.Sets.{SetStanding, Readable}
 use Rattle.tt_model.specs.System.{bookmark, deletes, reader_on}
 use Rattle.tt_model.specs.Checkpoint.{begin_checkpoint, begun_in, completed, copied, with_all_copies, with_completion}
-use Rattle.tt_model.specs.Backups.{kind_done, backup_refusal, row_of_set, set_edit, full_now, extended_now, with_set}
+use Rattle.tt_model.specs.Backups.{backup_refusal, row_of_set, set_edit, full_now, extended_now, with_set, SetWork, MakesSet, ContinuesSet, EndsSet, set_work}
 use Rattle.tt_model.specs.State.{State, catalog, Underway, Reader, all_forced, at_one, free_place, live_in, next, place_for, placed, reversals, trail, with_edit, with_edits, with_entry, write_position}
 use Rattle.tt_model.specs.declared.definition.CellEdit.{CellEdit}
-use Rattle.tt_model.specs.Step.{backed_up, backup_kind, backup_position, begun_reply, checkpoint_open, closed, commit_of, edit_length, end_length, forced_where, given, is_durable, least_open, line, made, made_in, no_checkpoint_number, no_number_for, no_position, no_system_position, number_for, open_at, refused, rollback_lengths, rollback_of, rolled_back, session_ended, statement, system, system_done, unless_refused as answer_unless, no_skip, given_to, next_read_of}
+use Rattle.tt_model.specs.Step.{backed_up, backup_position, begun_reply, checkpoint_open, closed, commit_of, edit_length, end_length, forced_where, given, is_durable, least_open, line, made, made_in, no_checkpoint_number, no_number_for, no_position, no_system_position, number_for, open_at, refused, rollback_lengths, rollback_of, rolled_back, session_ended, statement, system, system_done, unless_refused as answer_unless, no_skip, given_to, next_read_of, backup_line}
 use Rattle.tt_model.specs.Run.{ended, ended_one, has_position, roll_all}
 use Rattle.tt_model.proofs.FileLemmas.{none_left}
-use Rattle.tt_model.specs.Works.{LinesAreWorks, SameLog, Work, all_performed, changes, force_where, is_blocking_line, no_work, performed, rolled_entries, stop_works, system_work, unless_refused, with_entries, work_behind, work_of_all, work_of_commit, work_of_edits, work_of_end, work_of_rollback, work_of_statement, work_of_system, works_of, works_of_backup, works_of_kind, works_unless}
+use Rattle.tt_model.specs.Works.{LinesAreWorks, SameLog, Work, all_performed, changes, force_where, is_blocking_line, no_work, performed, rolled_entries, stop_works, system_work, unless_refused, with_entries, work_behind, work_of_all, work_of_commit, work_of_edits, work_of_end, work_of_rollback, work_of_statement, work_of_system, works_of, works_of_backup, works_unless, works_of_set}
+use Rattle.tt_model.proofs.LineLemmas.{selected-has}
 
 -- ---- states that have the same log
 
@@ -142,7 +141,6 @@ made_same session (e ∷ es) s =
 
 statement_same : (session : ℕ) (m : Meant) (s : State) → SameLog ((statement session m s).1) (performed (work_of_statement session m s) s)
 statement_same session (Refuses r) s = same_log s
-statement_same session (Gives rows) s = same_log s
 statement_same session (Makes edits) s = made_same session edits s
 
 settled_same : (session : ℕ) (a b : State) → SameLog a b → SameLog (session_ended session a) b
@@ -169,37 +167,7 @@ system_done_same edits s =
 
 system_same : (m : Meant) (s : State) → SameLog ((system m s).1) (performed (work_of_system m s) s)
 system_same (Refuses r) s = same_log s
-system_same (Gives rows) s = same_log s
 system_same (Makes edits) s = unless_same (no_system_position edits s) Done (system_done edits s) s (system_work edits s) (system_done_same edits s)
-
--- ---- selects
-
-abbrev MakesNone : Meant → Type 0
-MakesNone (Refuses r) = Unit {0}
-MakesNone (Gives rows) = Unit {0}
-MakesNone (Makes edits) = ⊥
-
-none_unless : (o : Option Refusal) (m : Meant) → MakesNone m → MakesNone (unless o m)
-none_unless (Some r) m none = tt
-none_unless None m none = none
-
-none_shown : (t : Table) (items : Items) (rows : List PlacedRow) → MakesNone (shown t items rows)
-none_shown t All rows = tt
-none_shown t (Columns names) rows = tt
-none_shown t (Sums aggregates) rows = none_unless (first_of (map (aggregate_refusal t rows) aggregates)) (Gives (record { values = map (aggregate_value t rows) aggregates } ∷ [])) tt
-
-none_in : (session : ℕ) (s : State) (items : Items) (cond : Option Cond) (order : List OrderItem) (o : Option Table) → MakesNone (select_in session s items cond order o)
-none_in session s items cond order None = tt
-none_in session s items cond order (Some t) = none_unless (select_refusal t items cond order) (shown t items _) (none_shown t items _)
-
-nothing_made : (session : ℕ) (m : Meant) (s : State) → MakesNone m → SameLog ((statement session m s).1) s
-nothing_made session (Refuses r) s none = same_log s
-nothing_made session (Gives rows) s none = same_log s
-nothing_made session (Makes edits) s none = absurd none
-
-select_same : (session : ℕ) (name : List ℕ) (items : Items) (cond : Option Cond) (order : List OrderItem) (s : State) → SameLog ((statement session (meant_by_select session s name items cond order) s).1) s
-unfolding meant_by_select
-select_same session name items cond order s = nothing_made session (select_in session s items cond order (table_named name (catalog s))) s (none_in session s items cond order (table_named name (catalog s)))
 
 -- ---- readers
 
@@ -258,20 +226,19 @@ stop_same : (s : State) (o : Option PlacedRow) → SameLog (elim o [ None ↦ s 
 stop_same s None = same_log s
 stop_same s (Some r) = system_done_same (deletes 6 r ∷ []) s
 
-backed_same : (set : ℕ) (kind : BackupKind) (s : State) → SameLog ((backed_up set kind s).1) (all_performed (works_of_backup set kind s) s)
-backed_same set Full s = set_same set (Some (Readable (full_now s))) (all_forced s)
-backed_same set FullEnable s = row_same set (Some (Readable (full_now s))) (set_edit (row_of_set set s) set (write_position s) ∷ []) s
-backed_same set Incremental s = row_same set (extended_now (s.sets set) s) (set_edit (row_of_set set s) set (write_position s) ∷ []) s
-backed_same set Stop s = stop_same s (row_of_set set s)
-backed_same set IncrOrFull s = same_log s
+backed_same : (set : ℕ) (work : SetWork) (s : State) → SameLog ((backed_up set work s).1) (all_performed (works_of_set set work s) s)
+backed_same set (MakesSet false) s = set_same set (Some (Readable (full_now s))) (all_forced s)
+backed_same set (MakesSet true) s = row_same set (Some (Readable (full_now s))) (set_edit (row_of_set set s) set (write_position s) ∷ []) s
+backed_same set ContinuesSet s = row_same set (extended_now (s.sets set) s) (set_edit (row_of_set set s) set (write_position s) ∷ []) s
+backed_same set EndsSet s = stop_same s (row_of_set set s)
 
 works_same : (o : Option Refusal) (reply : Reply) (after s : State) (ws : List Work) → SameLog after (all_performed ws s) → SameLog ((answer_unless o (reply, after) s).1) (all_performed (works_unless o ws) s)
 works_same None reply after s ws x = x
 works_same (Some r) reply after s ws x = same_log s
 
-backup_same : (session set : ℕ) (kind : BackupKind) (s : State) → SameLog ((backup_kind session set kind s).1) (all_performed (works_of_kind session set kind s) s)
-backup_same session set kind s =
-    works_same (option_or (backup_refusal session s set kind) (backup_position set kind s)) ((backed_up set kind s).0) ((backed_up set kind s).1) s (works_of_backup set kind s) (backed_same set kind s)
+backup_same : (session set : ℕ) (work : SetWork) (s : State) → SameLog ((backup_line session set work s).1) (all_performed (works_of_backup session set work s) s)
+backup_same session set work s =
+    works_same (option_or (backup_refusal session s set work) (backup_position set work s)) ((backed_up set work s).0) ((backed_up set work s).1) s (works_of_set set work s) (backed_same set work s)
 
 -- ---- all lines
 
@@ -284,7 +251,7 @@ unfolding line works_of
 line_same session (Insert table values) s n = statement_same session _ s
 line_same session (Update table sets cond) s n = statement_same session _ s
 line_same session (Delete table cond) s n = statement_same session _ s
-line_same session (Select table items cond order) s n = select_same session table items cond order s
+line_same session (Select table items cond order) s n = selected-has (λ (after : State). SameLog after s) (meant_by_select session s table items cond order) s (same_log s)
 line_same session CommitLine s n = commit_same session (s.own session) s
 line_same session Rollback s n = rollback_same session (s.own session) s
 line_same session DurableCommit s n = record { settings = refl; found = refl; entries = refl; forced = refl; pages = refl; files = refl }
@@ -303,7 +270,7 @@ line_same session XlaAcknowledge s n = system_same _ s
 line_same session (XlaOpen name) s n = opened_same session name s (is_some (s.reader session))
 line_same session (XlaNext count) s n = given_same session (s.reader session) count s
 line_same session XlaClose s n = closed_same session (s.reader session) s
-line_same session (BackupLine set kind) s n = backup_same session set (kind_done kind set s) s
+line_same session (BackupLine set kind) s n = backup_same session set (set_work kind set s) s
 line_same session Ckpt s n = answer_same (option_or (checkpoint_open s) (no_checkpoint_number s)) (begun_reply s) (begin_checkpoint s) s (begin_same s)
 line_same session CkptBlocking s n = absurd (true≢false n)
 

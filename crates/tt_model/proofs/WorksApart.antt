@@ -6,19 +6,18 @@ use Rattle.tt_value.specs.declared.refusal.Refusal.TheVariants.{CkptOpen}
 use Rattle.tt_parse.specs.declared.command.Command.{Command}
 use Rattle.tt_parse.specs.declared.command.Command.TheVariants.{CreateTable, DropTable, CreateIndex, DropIndex, Insert, Update, Delete, Select, Commit as CommitLine, Rollback, DurableCommit, Flush, Ckpt, CkptBlocking, LogHolds, Bookmark, Backup as BackupLine, XlaCreate, XlaDelete, XlaSubscribe, XlaUnsubscribe, XlaOpen, XlaNext, XlaAcknowledge, XlaClose}
 use Rattle.tt_parse.specs.declared.command.BackupKind.{BackupKind}
-use Rattle.tt_parse.specs.declared.command.BackupKind.TheVariants.{Full, FullEnable, Incremental, IncrOrFull, Stop}
 use Rattle.tt_record.specs.declared.entry.Entry.{Entry}
 use Rattle.tt_record.specs.declared.entry.Entry.TheVariants.{Commit, Abort}
 use Rattle.tt_model.specs.Tables.{PlacedRow}
 use Rattle.tt_model.specs.State.{State, Underway, all_forced, at_one, live_in, next, reversals, write_position}
 use Rattle.tt_model.specs.declared.definition.CellEdit.{CellEdit}
 use Rattle.tt_model.specs.Checkpoint.{copied, with_copies, without_pages}
-use Rattle.tt_model.specs.Meaning.{Meant, Refuses, Gives, Makes}
+use Rattle.tt_model.specs.Meaning.{Meant, Refuses, Makes}
 use Rattle.tt_model.specs.Meant.{meant}
 use Rattle.tt_model.specs.System.{deletes}
-use Rattle.tt_model.specs.Backups.{kind_done, row_of_set, set_edit}
+use Rattle.tt_model.specs.Backups.{row_of_set, set_edit, SetWork, MakesSet, ContinuesSet, EndsSet, set_work}
 use Rattle.tt_model.specs.Step.{edit_length, least_open, no_checkpoint_number, no_number_for, no_position, no_system_position, number_for, rollback_lengths}
-use Rattle.tt_model.specs.Works.{SameLog, Work, changes, force_where, row_work, stop_works, unless_refused, work_of_blocking, work_of_commit, work_of_edits, work_of_rollback, work_of_statement, work_of_system, works_of, works_of_backup, works_of_kind, works_unless}
+use Rattle.tt_model.specs.Works.{SameLog, Work, changes, force_where, row_work, stop_works, unless_refused, work_of_blocking, work_of_commit, work_of_edits, work_of_rollback, work_of_statement, work_of_system, works_of, works_of_backup, works_unless, works_of_set}
 use Rattle.tt_model.proofs.MeantApart.{aside, backup_place-aside, kind-aside, meant-aside, refusal-aside}
 use Rattle.tt_model.proofs.WorkLemmas.{changes_same}
 
@@ -45,7 +44,6 @@ module _ (stale : ℕ → ℕ → Bool) (u : Option Underway) (s : State) where
 
   of_statement : (session : ℕ) (m : Meant) → work_of_statement session m other ≡ work_of_statement session m s
   of_statement session (Refuses r) = refl
-  of_statement session (Gives rows) = refl
   of_statement session (Makes edits) = of_edits session edits
 
   of_commit : (session : ℕ) (o : Option ℕ) → work_of_commit session o other ≡ work_of_commit session o s
@@ -59,7 +57,6 @@ module _ (stale : ℕ → ℕ → Bool) (u : Option Underway) (s : State) where
 
   of_system : (m : Meant) → work_of_system m other ≡ work_of_system m s
   of_system (Refuses r) = refl
-  of_system (Gives rows) = refl
   of_system (Makes edits) =
       ap (λ (es : List Entry). unless_refused (no_system_position edits s) (record { entries = es ++ Commit (next s) ∷ []; force = s.settings.durable_commits })) (edits_alike (next s) edits)
 
@@ -79,17 +76,16 @@ module _ (stale : ℕ → ℕ → Bool) (u : Option Underway) (s : State) where
   of_stop None = refl
   of_stop (Some r) = ap (λ (es : List Entry). record { entries = es ++ Commit (next s) ∷ []; force = s.settings.durable_commits } ∷ []) (edits_alike (next s) (deletes 6 r ∷ []))
 
-  of_backup : (set : ℕ) (kind : BackupKind) → works_of_backup set kind other ≡ works_of_backup set kind s
-  of_backup set Full = refl
-  of_backup set FullEnable = ap (λ w. force_where true ∷ w ∷ []) (of_row set)
-  of_backup set Incremental = ap (λ w. force_where true ∷ w ∷ []) (of_row set)
-  of_backup set Stop = of_stop (row_of_set set s)
-  of_backup set IncrOrFull = refl
+  of_backup : (set : ℕ) (work : SetWork) → works_of_set set work other ≡ works_of_set set work s
+  of_backup set (MakesSet false) = refl
+  of_backup set (MakesSet true) = ap (λ w. force_where true ∷ w ∷ []) (of_row set)
+  of_backup set ContinuesSet = ap (λ w. force_where true ∷ w ∷ []) (of_row set)
+  of_backup set EndsSet = of_stop (row_of_set set s)
 
-  of_kind : (session set : ℕ) (kind : BackupKind) → works_of_kind session set (kind_done kind set other) other ≡ works_of_kind session set (kind_done kind set s) s
+  of_kind : (session set : ℕ) (kind : BackupKind) → works_of_backup session set (set_work kind set other) other ≡ works_of_backup session set (set_work kind set s) s
   of_kind session set kind =
-      let done : BackupKind = kind_done kind set s in
-      ap (λ k. works_of_kind session set k other) (kind-aside set kind stale u s)
+      let done : SetWork = set_work kind set s in
+      ap (λ k. works_of_backup session set k other) (kind-aside set kind stale u s)
       ∙ ap₂ works_unless (ap₂ option_or (refusal-aside session set done stale u s) (backup_place-aside set done stale u s)) (of_backup set done)
 
   by_statement : (session : ℕ) (command : Command) → work_of_statement session (meant session command other) other ≡ work_of_statement session (meant session command s) s

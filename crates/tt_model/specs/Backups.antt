@@ -18,31 +18,52 @@ use Rattle.tt_model.specs.System.{in_transaction, system_rows, adds, rewrites, n
 abbrev pub row_of_set : ℕ → State → Option PlacedRow
 row_of_set set s = set_row set (bound s) (cells_of s)
 
--- fileIncrOrFull is fileIncremental where the set has a row and its image is whole, else fileFullEnable.
-abbrev pub kind_done : BackupKind → ℕ → State → BackupKind
-kind_done IncrOrFull set s = if is_some (row_of_set set s) && is_some (s.sets set) then Incremental else FullEnable
-kind_done kind set s = kind
+-- What a ttBackup line does to its set: it makes it anew, with a row where incremental ones are to follow; it continues it; or it ends
+-- that incremental ones follow.
+pub data SetWork : Type 0 where
+  MakesSet : Bool → SetWork
+  ContinuesSet : SetWork
+  EndsSet : SetWork
 
-abbrev pub is_behind : Option PlacedRow → BackupSet → State → Bool
-is_behind None b s = true
-is_behind (Some r) b s = position_lt (set_end b) (position_at 1 r) || position_lt (force_position s) (set_end b) || not (nat_eq b.head.database s.database)
+-- fileIncrOrFull is fileIncremental where the set has a row and its image is whole, else fileFullEnable.
+abbrev pub set_work : BackupKind → ℕ → State → SetWork
+set_work Full set s = MakesSet false
+set_work FullEnable set s = MakesSet true
+set_work Incremental set s = ContinuesSet
+set_work IncrOrFull set s = if is_some (row_of_set set s) && is_some (s.sets set) then ContinuesSet else MakesSet true
+set_work Stop set s = EndsSet
+
+-- The set ends before the position that its row has: an older copy of it stands there.
+abbrev pub ends_before_row : PlacedRow → BackupSet → Bool
+ends_before_row r b = position_lt (set_end b) (position_at 1 r)
+
+-- The set ends past what is forced here: it has entries that this log may not have.
+abbrev pub ends_past_forced : BackupSet → State → Bool
+ends_past_forced b s = position_lt (force_position s) (set_end b)
+
+abbrev pub is_of_another_database : BackupSet → State → Bool
+is_of_another_database b s = not (nat_eq b.head.database s.database)
+
+-- A set can't be continued that has no row, or that isn't the one that the row tells of.
+abbrev pub can't_continue : Option PlacedRow → BackupSet → State → Bool
+can't_continue None b s = true
+can't_continue (Some r) b s = ends_before_row r b || ends_past_forced b s || is_of_another_database b s
 
 abbrev pub is_not_incremental : Option PlacedRow → Option SetStanding → State → Bool
 is_not_incremental row None s = false
 is_not_incremental row (Some Unreadable) s = true
-is_not_incremental row (Some (Readable b)) s = is_behind row b s
+is_not_incremental row (Some (Readable b)) s = can't_continue row b s
 
 abbrev pub first_row_refusal : ℕ → State → Option Refusal
 first_row_refusal set s =
     if is_some (row_of_set set s) then None else first_of (refused_if (nat_le 64 (length (system_rows 6 s))) (TooMany 64) ∷ no_room 1 s ∷ [])
 
 -- The first refusal, but for the log numbers.
-unfoldable pub backup_refusal : ℕ → State → ℕ → BackupKind → Option Refusal
-backup_refusal session s set Full = first_of (in_transaction session s ∷ refused_if (is_some (s.sets set)) SetThere ∷ [])
-backup_refusal session s set FullEnable = first_of (in_transaction session s ∷ refused_if (is_some (s.sets set)) SetThere ∷ first_row_refusal set s ∷ [])
-backup_refusal session s set Incremental = first_of (in_transaction session s ∷ refused_if (is_none (s.sets set)) NoSet ∷ refused_if (is_not_incremental (row_of_set set s) (s.sets set) s) NotIncremental ∷ [])
-backup_refusal session s set Stop = first_of (in_transaction session s ∷ refused_if (is_none (row_of_set set s)) NotIncremental ∷ [])
-backup_refusal session s set IncrOrFull = None
+unfoldable pub backup_refusal : ℕ → State → ℕ → SetWork → Option Refusal
+backup_refusal session s set (MakesSet false) = first_of (in_transaction session s ∷ refused_if (is_some (s.sets set)) SetThere ∷ [])
+backup_refusal session s set (MakesSet true) = first_of (in_transaction session s ∷ refused_if (is_some (s.sets set)) SetThere ∷ first_row_refusal set s ∷ [])
+backup_refusal session s set ContinuesSet = first_of (in_transaction session s ∷ refused_if (is_none (s.sets set)) NoSet ∷ refused_if (is_not_incremental (row_of_set set s) (s.sets set) s) NotIncremental ∷ [])
+backup_refusal session s set EndsSet = first_of (in_transaction session s ∷ refused_if (is_none (row_of_set set s)) NotIncremental ∷ [])
 
 -- The SETS row with a new end.
 abbrev pub set_edit : Option PlacedRow → ℕ → Position → CellEdit

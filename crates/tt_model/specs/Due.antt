@@ -78,11 +78,15 @@ marked catalog t e first (d ∷ ds) =
 abbrev pub after_skip : ReadPlace → DueChange → Bool
 after_skip place d = not (position_eq d.commit place.at) || nat_lt place.skip d.count
 
+-- What is due of one Commit: its transaction's Changes from the hold on are taken and numbered, those of subscribed tables are kept, the
+-- first and the last of them are marked; and of the Commit at the read place those that were given are left out.
 abbrev pub due_of : ReadPlace → List Subscribed → Catalog → Placed → Entry → Trail → List DueChange
 due_of place subscriptions catalog e (Commit t) older =
-    if position_le place.at e.at
-    then filter (after_skip place) (marked catalog t e true (filter (is_subscribed subscriptions e.at) (counted 0 (open_changes place.hold t older))))
-    else []
+    let taken = open_changes place.hold t older in
+    let numbered = counted 0 taken in
+    let kept = filter (is_subscribed subscriptions e.at) numbered in
+    let given = marked catalog t e true kept in
+    if position_le place.at e.at then filter (after_skip place) given else []
 due_of place subscriptions catalog e _ older = []
 
 -- All that is due in the forced part of a trail, in the order of the Commits.

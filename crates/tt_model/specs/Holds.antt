@@ -56,5 +56,6 @@ holds_of scans bound cells trail =
     ++ (map (λ r. hold (Xla (text_at 0 r)) (position_at 4 r)) (by_text 0 (rows_of 4 bound cells))
     ++ filter_map (transaction_hold trail) (live trail))))
 
+-- The least position that is held. The end comes in as well: no hold lies past it, so it is the answer only where nothing is held.
 abbrev pub least_hold_of : Position → List Hold → Position
 least_hold_of end holds = least_of end (map (λ (h : Hold). h.at) holds)

@@ -74,7 +74,7 @@ numbers_below n = numbers_from n 0
 abbrev pub taken_count : (ℕ → Bool) → ℕ → ℕ
 taken_count taken bound = count_by taken (numbers_below bound)
 
--- One more than the transaction number of an entry, or 0.
+-- One more than the transaction number of an entry. An entry without one gives 0, which no greatest number is changed by.
 abbrev pub after_number : Entry → ℕ
 after_number (Change t place before after) = suc t
 after_number (Commit t) = suc t

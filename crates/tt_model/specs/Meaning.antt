@@ -1,5 +1,5 @@
--- What a statement means in a state: its first refusal, or the rows that it gives, or the changes that it makes.
-use Rattle.std.specs.Prelude.{ℕ, ℤ, pos, ◌+ℤ◌, ◌-ℤ◌, ◌*ℤ◌, int_le, int_lt, ◌+◌, ◌-◌, ◌*◌, ◌^◌, Bool, true, false, not, ◌&&◌, nat_eq, nat_lt, nat_le, List, [], ◌∷◌, map, filter, filter_map, zip, length, slice_set, unsigned_abs, bytes_eq, option_map, unwrap_or, Option, Some, None, Result, Ok, Err, if◌then◌else◌, ◌==◌}
+-- What a statement means in a state: its first refusal, or the changes that it makes; of a select, the rows that it gives.
+use Rattle.std.specs.Prelude.{ℕ, ℤ, pos, ◌+ℤ◌, ◌-ℤ◌, ◌*ℤ◌, int_le, int_lt, ◌+◌, ◌-◌, ◌*◌, ◌^◌, Bool, true, false, not, ◌&&◌, nat_eq, nat_lt, nat_le, List, [], ◌∷◌, ◌++◌, map, filter, filter_map, zip, length, slice_set, unsigned_abs, bytes_eq, option_map, unwrap_or, Option, Some, None, Result, Ok, Err, if◌then◌else◌, ◌==◌}
 use Rattle.std.specs.List.{list_any, list_all}
 use Rattle.std.specs.Option.{option_or}
 use Rattle.std.specs.declared.cmp.Ordering.{Ordering}
@@ -34,9 +34,9 @@ use Rattle.tt_model.specs.Conditions.{takes, has_columns, has_kinds, is_column, 
 use Rattle.tt_model.specs.State.{State, trail, view, bound, used_count, catalog}
 use Rattle.tt_model.specs.declared.definition.CellEdit.{CellEdit}
 
+-- What a line that writes rows means. A select writes none: it means its rows or its first refusal.
 pub data Meant : Type 0 where
   Refuses : Refusal → Meant
-  Gives : List Row → Meant
   Makes : List CellEdit → Meant
 
 -- A refusal where a test fails, and the first of several.
@@ -52,6 +52,15 @@ first_of (None ∷ rest) = first_of rest
 abbrev pub unless : Option Refusal → Meant → Meant
 unless (Some r) m = Refuses r
 unless None m = m
+
+-- A line about what it names: the first of the tests that come before, then that it isn't there, then the first of its own tests.
+abbrev pub if_there : {X : Type 0} → Refusal → List (Option Refusal) → (X → List (Option Refusal)) → (X → List CellEdit) → Option X → Meant
+if_there missing earlier tests edits None = unless (first_of earlier) (Refuses missing)
+if_there missing earlier tests edits (Some x) = unless (first_of (earlier ++ tests x)) (Makes (edits x))
+
+abbrev pub rows_unless : Option Refusal → Result (List Row) Refusal → Result (List Row) Refusal
+rows_unless (Some r) rows = Err r
+rows_unless None rows = rows
 
 -- Assignment: which literals a column takes, and the value that it then has.
 abbrev pub takes_literal : ColumnType → Value → Bool
@@ -271,18 +280,39 @@ with_values (p ∷ ps) values = with_values ps (slice_set values (p.0) (p.1))
 abbrev pub each_set : Table → (ColumnText → Value → Option Refusal) → List (ℕ × Value) → Option Refusal
 each_set t f new = first_of (map (λ (p : ℕ × Value). f (column_at t (p.0)) (p.1)) new)
 
-abbrev pub update_row_tests : ℕ → State → Table → List (ℕ × Value) → PlacedRow → Row → List PlacedRow → List (Option Refusal)
-update_row_tests session s t new r row rows =
-    let unique = unique_of t (catalog s) in
-    each_set t range_refusal new ∷ each_set t null_refusal new ∷ each_set t wide_refusal new
-    ∷ row_refusal row
-    ∷ conflict (s.own session) (trail s) (key_name t (r.1))
-    ∷ first_of (map (λ i. first_of (value_conflict (s.own session) (trail s) (value_name i (r.1)) ∷ value_conflict (s.own session) (trail s) (value_name i row) ∷ [])) unique)
-    ∷ first_of (map (value_there row (Some (r.0)) rows) unique)
+-- A row that an update changes: the row before with its place, the row after, the values that the sets give, each with its column's
+-- number, and the rows of the table that the session sees.
+pub record RowUpdate : Type 0 where
+  pub before : PlacedRow
+  pub after : Row
+  pub values : List (ℕ × Value)
+  pub seen : List PlacedRow
+
+-- Another live transaction holds the key.
+abbrev pub key_is_held : ℕ → State → Table → RowUpdate → Option Refusal
+key_is_held session s t u = conflict (s.own session) (trail s) (key_name t ((u.before).1))
+
+-- Another live transaction holds a value of a unique index, of the row before or of the row after.
+abbrev pub values_are_held : ℕ → State → RowUpdate → Index → Option Refusal
+values_are_held session s u i =
+    first_of (value_conflict (s.own session) (trail s) (value_name i ((u.before).1))
+    ∷ value_conflict (s.own session) (trail s) (value_name i u.after)
+    ∷ [])
+
+-- The tests of one row, in their order.
+abbrev pub update_row_tests : ℕ → State → Table → RowUpdate → List (Option Refusal)
+update_row_tests session s t u =
+    each_set t range_refusal u.values
+    ∷ each_set t null_refusal u.values
+    ∷ each_set t wide_refusal u.values
+    ∷ row_refusal u.after
+    ∷ key_is_held session s t u
+    ∷ first_of (map (values_are_held session s u) (unique_of t (catalog s)))
+    ∷ first_of (map (value_there u.after (Some ((u.before).0)) u.seen) (unique_of t (catalog s)))
     ∷ []
 
-abbrev pub update_row_refusal : ℕ → State → Table → List (ℕ × Value) → PlacedRow → Row → List PlacedRow → Option Refusal
-update_row_refusal session s t new r row rows = first_of (update_row_tests session s t new r row rows)
+abbrev pub update_row_refusal : ℕ → State → Table → RowUpdate → Option Refusal
+update_row_refusal session s t u = first_of (update_row_tests session s t u)
 
 abbrev pub with_row : PlacedRow → List PlacedRow → List PlacedRow
 with_row r rows = map (λ (q : PlacedRow). if nat_eq (q.0) (r.0) then r else q) rows
@@ -301,7 +331,7 @@ update_rows session s t sets rows [] = Ok []
 update_rows session s t sets rows (r ∷ rest) =
     let new = set_values t (r.1) sets in
     let row : Row = record { values = with_values new ((r.1).values) } in
-    unless_row (update_row_refusal session s t new r row rows)
+    unless_row (update_row_refusal session s t (record { before = r; after = row; values = new; seen = rows }))
     (record { place = Some (r.0); before = full t (r.1); after = full t row })
     (update_rows session s t sets (with_row (r.0, row) rows) rest)
 
@@ -372,15 +402,16 @@ abbrev pub aggregate_refusal : Table → List PlacedRow → Aggregate → Option
 aggregate_refusal t rows Count = None
 aggregate_refusal t rows (Sum name) = refused_if (is_value_out (kind_named t name) (sum_of (kind_named t name) (values_summed t rows name))) OutOfRange
 
-abbrev pub shown : Table → Items → List PlacedRow → Meant
-shown t All rows = Gives (map (λ (r : PlacedRow). r.1) rows)
-shown t (Columns names) rows = Gives (map (picked t names) rows)
-shown t (Sums aggregates) rows = unless (first_of (map (aggregate_refusal t rows) aggregates)) (Gives (record { values = map (aggregate_value t rows) aggregates } ∷ []))
+abbrev pub shown : Table → Items → List PlacedRow → Result (List Row) Refusal
+shown t All rows = Ok (map (λ (r : PlacedRow). r.1) rows)
+shown t (Columns names) rows = Ok (map (picked t names) rows)
+shown t (Sums aggregates) rows =
+    rows_unless (first_of (map (aggregate_refusal t rows) aggregates)) (Ok (record { values = map (aggregate_value t rows) aggregates } ∷ []))
 
-abbrev pub select_in : ℕ → State → Items → Option Cond → List OrderItem → Option Table → Meant
-select_in session s items cond order None = Refuses NoTable
+abbrev pub select_in : ℕ → State → Items → Option Cond → List OrderItem → Option Table → Result (List Row) Refusal
+select_in session s items cond order None = Err NoTable
 select_in session s items cond order (Some t) =
-    unless (select_refusal t items cond order)
+    rows_unless (select_refusal t items cond order)
     (shown t items (in_order (order_cmp t order) (filter (λ (r : PlacedRow). takes cond t (r.1)) (rows_seen session s t))))
 
 unfoldable pub meant_by_insert : ℕ → State → List ℕ → List Value → Meant
@@ -392,5 +423,5 @@ meant_by_update session s name sets cond = update_in session s sets cond (table_
 unfoldable pub meant_by_delete : ℕ → State → List ℕ → Option Cond → Meant
 meant_by_delete session s name cond = delete_from session s cond (table_named name (catalog s))
 
-unfoldable pub meant_by_select : ℕ → State → List ℕ → Items → Option Cond → List OrderItem → Meant
+unfoldable pub meant_by_select : ℕ → State → List ℕ → Items → Option Cond → List OrderItem → Result (List Row) Refusal
 meant_by_select session s name items cond order = select_in session s items cond order (table_named name (catalog s))

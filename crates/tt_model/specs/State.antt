@@ -112,8 +112,12 @@ abbrev pub newest_number : State → ℕ
 newest_number s = number_of (s.heads s.newest)
 
 -- the scan positions that checkpoint files hold
+abbrev pub scan_held_by : Option Underway → State → ℕ → Option Position
+scan_held_by None s file = scan_of (s.heads file)
+scan_held_by (Some b) s file = if nat_eq b.file file then Some b.scan else scan_of (s.heads file)
+
 abbrev pub scan_held : State → ℕ → Option Position
-scan_held s file = elim s.underway [ None ↦ scan_of (s.heads file) | Some b ↦ if nat_eq b.file file then Some b.scan else scan_of (s.heads file) ]
+scan_held s file = scan_held_by s.underway s file
 
 abbrev pub holds : State → List Hold
 holds s = holds_of (scan_held s) (bound s) (cells_of s) (trail s)

@@ -3,20 +3,20 @@ use Rattle.std.specs.Prelude.{◌≡◌, ◌⊎◌, ◌&&◌, ℕ, suc, ◌+◌,
 use Rattle.std.specs.Option.{option_or}
 use Rattle.tt_value.specs.declared.refusal.Refusal.{Refusal}
 use Rattle.tt_value.specs.declared.refusal.Refusal.TheVariants.{LogOut, CkptOpen, TransactionOpen, NoReader, NoBookmark, BookmarkBusy, NoMemory}
+use Rattle.tt_value.specs.declared.value.Row.{Row}
 use Rattle.tt_value.specs.declared.reply.Reply.{Reply}
 use Rattle.tt_value.specs.declared.reply.Reply.TheVariants.{Done, Changed, Rows, Checkpoint, Positions, Holds, Updates, Backup, Refused}
 use Rattle.tt_parse.specs.declared.command.Command.{Command}
 use Rattle.tt_parse.specs.declared.command.Command.TheVariants.{CreateTable, DropTable, CreateIndex, DropIndex, Insert, Update, Delete, Select, Commit as CommitLine, Rollback, DurableCommit, Flush, Ckpt, CkptBlocking, LogHolds, Bookmark, Backup as BackupLine, XlaCreate, XlaDelete, XlaSubscribe, XlaUnsubscribe, XlaOpen, XlaNext, XlaAcknowledge, XlaClose}
-use Rattle.tt_parse.specs.declared.command.BackupKind.{BackupKind}
-use Rattle.tt_parse.specs.declared.command.BackupKind.TheVariants.{Full, FullEnable, Incremental, IncrOrFull, Stop}
+use Rattle.tt_parse.specs.declared.command.BackupKind.TheVariants.{Stop}
 use Rattle.tt_record.specs.declared.entry.Entry.TheVariants.{Change, Commit, Abort}
 use Rattle.tt_record.specs.Entry.{length_of}
 use Rattle.tt_model.specs.Trail.{oldest}
 use Rattle.tt_model.specs.Tables.{PlacedRow, number_at, position_at, subscriptions_of}
 use Rattle.tt_model.specs.Due.{DueChange, due, read_to}
-use Rattle.tt_model.specs.Meaning.{Meant, Refuses, Gives, Makes, refused_if, meant_by_insert, meant_by_update, meant_by_delete, meant_by_select}
+use Rattle.tt_model.specs.Meaning.{Meant, Refuses, Makes, refused_if, meant_by_insert, meant_by_update, meant_by_delete, meant_by_select}
 use Rattle.tt_model.specs.System.{reader_on, bookmark, deletes, meant_by_create_table, meant_by_drop_table, meant_by_create_index, meant_by_drop_index, meant_by_create_bookmark, meant_by_delete_bookmark, meant_by_subscribe, meant_by_unsubscribe, meant_by_acknowledge}
-use Rattle.tt_model.specs.Backups.{kind_done, backup_refusal, row_of_set, set_edit, full_now, extended_now, with_set}
+use Rattle.tt_model.specs.Backups.{SetWork, MakesSet, ContinuesSet, EndsSet, set_work, backup_refusal, row_of_set, set_edit, full_now, extended_now, with_set}
 use Rattle.tt_model.specs.Sets.{Readable}
 use Rattle.tt_model.specs.State.{Underway, State, Reader, ReadPlace, newest_number, at_one, trail, cells_of, bound, catalog, next, live_in, holds, least_hold, write_position, force_position, with_entry, with_edits, all_forced, reversals, lengths_fit}
 use Rattle.tt_model.specs.Checkpoint.{begin_checkpoint, with_copies, with_all_copies, with_completion, begun_in}
@@ -74,8 +74,11 @@ made session (e ∷ es) s =
 
 abbrev pub statement : ℕ → Meant → State → Answered
 statement session (Refuses r) s = refused r s
-statement session (Gives rows) s = (Rows rows, s)
 statement session (Makes edits) s = made session edits s
+
+abbrev pub selected : Result (List Row) Refusal → State → Answered
+selected (Ok rows) s = (Rows rows, s)
+selected (Err r) s = refused r s
 
 -- commit and rollback
 
@@ -110,7 +113,6 @@ no_system_position edits s = option_or (no_number s) (no_position (map edit_leng
 
 abbrev pub system : Meant → State → Answered
 system (Refuses r) s = refused r s
-system (Gives rows) s = (Done, s)
 system (Makes edits) s = unless_refused (no_system_position edits s) (Done, system_done edits s) s
 
 -- readers
@@ -154,26 +156,25 @@ closed session (Some r) s = (Done, with_reader session None s)
 
 -- backups
 
-abbrev pub backed_up : ℕ → BackupKind → State → Answered
-backed_up set Full s = (Backup set true (write_position s), with_set set (Some (Readable (full_now s))) (all_forced s))
-backed_up set FullEnable s = (
+abbrev pub backed_up : ℕ → SetWork → State → Answered
+backed_up set (MakesSet false) s = (Backup set true (write_position s), with_set set (Some (Readable (full_now s))) (all_forced s))
+backed_up set (MakesSet true) s = (
   Backup set true (write_position s),
   system_done (set_edit (row_of_set set s) set (write_position s) ∷ []) (with_set set (Some (Readable (full_now s))) (all_forced s)),
 )
-backed_up set Incremental s = (
+backed_up set ContinuesSet s = (
   Backup set false (write_position s),
   system_done (set_edit (row_of_set set s) set (write_position s) ∷ []) (with_set set (extended_now (s.sets set) s) (all_forced s)),
 )
-backed_up set Stop s = (Done, elim (row_of_set set s) [ None ↦ s | Some r ↦ system_done (deletes 6 r ∷ []) s ])
-backed_up set IncrOrFull s = (Done, s)
+backed_up set EndsSet s = (Done, elim (row_of_set set s) [ None ↦ s | Some r ↦ system_done (deletes 6 r ∷ []) s ])
 
-abbrev pub backup_position : ℕ → BackupKind → State → Option Refusal
-backup_position set Full s = None
-backup_position set Stop s = elim (row_of_set set s) [ None ↦ None | Some r ↦ no_system_position (deletes 6 r ∷ []) s ]
-backup_position set kind s = no_system_position (set_edit (row_of_set set s) set (write_position s) ∷ []) s
+abbrev pub backup_position : ℕ → SetWork → State → Option Refusal
+backup_position set (MakesSet false) s = None
+backup_position set EndsSet s = elim (row_of_set set s) [ None ↦ None | Some r ↦ no_system_position (deletes 6 r ∷ []) s ]
+backup_position set work s = no_system_position (set_edit (row_of_set set s) set (write_position s) ∷ []) s
 
-abbrev pub backup_kind : ℕ → ℕ → BackupKind → State → Answered
-backup_kind session set kind s = unless_refused (option_or (backup_refusal session s set kind) (backup_position set kind s)) (backed_up set kind s) s
+abbrev pub backup_line : ℕ → ℕ → SetWork → State → Answered
+backup_line session set work s = unless_refused (option_or (backup_refusal session s set work) (backup_position set work s)) (backed_up set work s) s
 
 -- checkpoints
 
@@ -203,7 +204,7 @@ unfoldable pub line : ℕ → Command → State → Answered
 line session (Insert table values) s = statement session (meant_by_insert session s table values) s
 line session (Update table sets cond) s = statement session (meant_by_update session s table sets cond) s
 line session (Delete table cond) s = statement session (meant_by_delete session s table cond) s
-line session (Select table items cond order) s = statement session (meant_by_select session s table items cond order) s
+line session (Select table items cond order) s = selected (meant_by_select session s table items cond order) s
 line session CommitLine s = commit_of session (s.own session) s
 line session Rollback s = rollback_of session (s.own session) s
 line session DurableCommit s = (Done, record s { wish = at_one session true s.wish })
@@ -222,7 +223,7 @@ line session XlaAcknowledge s = system (meant_by_acknowledge session s) s
 line session (XlaOpen name) s = reader_opened session name s
 line session (XlaNext n) s = given session (s.reader session) n s
 line session XlaClose s = closed session (s.reader session) s
-line session (BackupLine set kind) s = backup_kind session set (kind_done kind set s) s
+line session (BackupLine set kind) s = backup_line session set (set_work kind set s) s
 line session Ckpt s = checkpoint_line s
 line session CkptBlocking s = blocking_line s
 

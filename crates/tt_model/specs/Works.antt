@@ -5,15 +5,13 @@ use Rattle.std.specs.Option.{option_or}
 use Rattle.tt_value.specs.declared.refusal.Refusal.{Refusal}
 use Rattle.tt_parse.specs.declared.command.Command.{Command}
 use Rattle.tt_parse.specs.declared.command.Command.TheVariants.{CreateTable, DropTable, CreateIndex, DropIndex, Insert, Update, Delete, Select, Commit as CommitLine, Rollback, DurableCommit, Flush, Ckpt, CkptBlocking, LogHolds, Bookmark, Backup as BackupLine, XlaCreate, XlaDelete, XlaSubscribe, XlaUnsubscribe, XlaOpen, XlaNext, XlaAcknowledge, XlaClose}
-use Rattle.tt_parse.specs.declared.command.BackupKind.{BackupKind}
-use Rattle.tt_parse.specs.declared.command.BackupKind.TheVariants.{Full, FullEnable, Incremental, IncrOrFull, Stop}
 use Rattle.tt_record.specs.declared.entry.Entry.{Entry}
 use Rattle.tt_record.specs.declared.entry.Entry.TheVariants.{Change, Commit, Abort}
 use Rattle.tt_record.specs.Entry.{length_of}
 use Rattle.tt_model.specs.Tables.{PlacedRow}
-use Rattle.tt_model.specs.Meaning.{Meant, Refuses, Gives, Makes, meant_by_insert, meant_by_update, meant_by_delete}
+use Rattle.tt_model.specs.Meaning.{Meant, Refuses, Makes, meant_by_insert, meant_by_update, meant_by_delete}
 use Rattle.tt_model.specs.System.{deletes, meant_by_create_table, meant_by_drop_table, meant_by_create_index, meant_by_drop_index, meant_by_create_bookmark, meant_by_delete_bookmark, meant_by_subscribe, meant_by_unsubscribe, meant_by_acknowledge}
-use Rattle.tt_model.specs.Backups.{kind_done, backup_refusal, row_of_set, set_edit}
+use Rattle.tt_model.specs.Backups.{SetWork, MakesSet, ContinuesSet, EndsSet, set_work, backup_refusal, row_of_set, set_edit}
 use Rattle.tt_model.specs.State.{State, next, live_in, place_for, write_position, lengths_fit, with_entry, with_edit, all_forced, reversals}
 use Rattle.tt_model.specs.declared.definition.CellEdit.{CellEdit}
 use Rattle.tt_model.specs.Step.{backup_position, checkpoint_open, edit_length, end_length, forced_where, is_durable, least_open, line, no_checkpoint_number, no_number_for, no_position, no_system_position, number_for, rollback_lengths}
@@ -71,7 +69,6 @@ work_of_edits session (e ∷ es) s =
 
 abbrev pub work_of_statement : ℕ → Meant → State → Work
 work_of_statement session (Refuses r) s = no_work
-work_of_statement session (Gives rows) s = no_work
 work_of_statement session (Makes edits) s = work_of_edits session edits s
 
 abbrev pub work_of_commit : ℕ → Option ℕ → State → Work
@@ -91,7 +88,6 @@ system_work edits s = record { entries = changes (next s) edits s ++ Commit (nex
 
 abbrev pub work_of_system : Meant → State → Work
 work_of_system (Refuses r) s = no_work
-work_of_system (Gives rows) s = no_work
 work_of_system (Makes edits) s = unless_refused (no_system_position edits s) (system_work edits s)
 
 -- A backup forces the log, and once the set is written it may have a transaction of its own.
@@ -106,15 +102,14 @@ abbrev pub stop_works : State → Option PlacedRow → List Work
 stop_works s None = []
 stop_works s (Some r) = system_work (deletes 6 r ∷ []) s ∷ []
 
-abbrev pub works_of_backup : ℕ → BackupKind → State → List Work
-works_of_backup set Full s = force_where true ∷ []
-works_of_backup set FullEnable s = force_where true ∷ row_work set s ∷ []
-works_of_backup set Incremental s = force_where true ∷ row_work set s ∷ []
-works_of_backup set Stop s = stop_works s (row_of_set set s)
-works_of_backup set IncrOrFull s = []
+abbrev pub works_of_set : ℕ → SetWork → State → List Work
+works_of_set set (MakesSet false) s = force_where true ∷ []
+works_of_set set (MakesSet true) s = force_where true ∷ row_work set s ∷ []
+works_of_set set ContinuesSet s = force_where true ∷ row_work set s ∷ []
+works_of_set set EndsSet s = stop_works s (row_of_set set s)
 
-abbrev pub works_of_kind : ℕ → ℕ → BackupKind → State → List Work
-works_of_kind session set kind s = works_unless (option_or (backup_refusal session s set kind) (backup_position set kind s)) (works_of_backup set kind s)
+abbrev pub works_of_backup : ℕ → ℕ → SetWork → State → List Work
+works_of_backup session set work s = works_unless (option_or (backup_refusal session s set work) (backup_position set work s)) (works_of_set set work s)
 
 -- A blocking checkpoint completes, which forces the log.
 abbrev pub work_of_blocking : State → Work
@@ -147,7 +142,7 @@ works_of session XlaAcknowledge s = one (work_of_system (meant_by_acknowledge se
 works_of session (XlaOpen name) s = []
 works_of session (XlaNext n) s = []
 works_of session XlaClose s = []
-works_of session (BackupLine set kind) s = works_of_kind session set (kind_done kind set s) s
+works_of session (BackupLine set kind) s = works_of_backup session set (set_work kind set s) s
 works_of session Ckpt s = []
 works_of session CkptBlocking s = one (work_of_blocking s)
 

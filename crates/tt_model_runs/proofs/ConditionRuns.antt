@@ -9,7 +9,7 @@ use Rattle.tt_value.specs.declared.value.Cell.TheVariants.{Empty}
 use Rattle.tt_value.specs.declared.refusal.Refusal.{Refusal}
 use Rattle.tt_value.specs.declared.refusal.Refusal.TheVariants.{NoTable, NoColumn, WrongType}
 use Rattle.tt_value.specs.declared.reply.Reply.{Reply}
-use Rattle.std.specs.Prelude.{not, ◌&&◌}
+use Rattle.std.specs.Prelude.{not, ◌&&◌, Result, Err}
 use Rattle.std.specs.List.{list_all}
 use Rattle.tt_parse.specs.declared.cond.Op.{Op}
 use Rattle.tt_parse.specs.declared.cond.Operand.{Operand}
@@ -27,7 +27,7 @@ use Rattle.tt_model.specs.State.{State, catalog, write_position}
 use Rattle.tt_value.specs.declared.position.Position.{Position}
 use Rattle.tt_model.specs.Meaning.{Meant, Refuses, Makes, refused_if, first_of, unless, full, rows_seen, key_order, order_cmp, delete_row_refusal, sets_refusal, update_rows, makes, items_columns, sums_text, shown, delete_from, update_in, select_in, meant_by_delete, meant_by_update, meant_by_select}
 use Rattle.tt_model.specs.Checkpoint.{with_copies}
-use Rattle.tt_model.specs.Step.{Answered, line, stepped, statement, completion_after}
+use Rattle.tt_model.specs.Step.{Answered, line, stepped, statement, completion_after, selected}
 
 -- ---- how runs are written
 
@@ -197,10 +197,10 @@ update_by session s sets m (Some t) =
     unless (option_or (sets_refusal t [] sets) (refusal_by m t))
     (makes (update_rows session s t sets rows (in_order (key_order t) (rows_by m t rows))))
 
-abbrev pub select_by : ℕ → State → Items → Meaning → List OrderItem → Option Table → Meant
-select_by session s items m order None = Refuses NoTable
+abbrev pub select_by : ℕ → State → Items → Meaning → List OrderItem → Option Table → Result (List Row) Refusal
+select_by session s items m order None = Err NoTable
 select_by session s items m order (Some t) =
-    unless (first_of (
+    rows_unless (first_of (
     refused_if (not (list_all (is_column t) (items_columns items))) NoColumn
     ∷ refused_if (sums_text t items) WrongType
     ∷ refusal_by m t
@@ -212,7 +212,7 @@ abbrev pub line_told : ℕ → Told → State → Answered
 line_told session (Plain command) s = line session command s
 line_told session (UpdateWhere table sets m) s = statement session (update_by session s sets m (table_named table (catalog s))) s
 line_told session (DeleteWhere table m) s = statement session (delete_by session s m (table_named table (catalog s))) s
-line_told session (SelectWhere table items m order) s = statement session (select_by session s items m order (table_named table (catalog s))) s
+line_told session (SelectWhere table items m order) s = selected (select_by session s items m order (table_named table (catalog s))) s
 
 abbrev pub stepped_told : ℕ → Told → State → Answered
 stepped_told session l s = let a = line_told session l (with_copies s) in (a.0, completion_after s.underway (a.1))
@@ -248,7 +248,7 @@ line-told : (session : ℕ) (command : Command) (s : State) → line session com
 unfolding line meant_by_delete meant_by_update meant_by_select
 line-told session (Update table sets (Some cond)) s = ap (λ (m : Meant). statement session m s) (update-told session s sets cond (table_named table (catalog s)))
 line-told session (Delete table (Some cond)) s = ap (λ (m : Meant). statement session m s) (delete-told session s cond (table_named table (catalog s)))
-line-told session (Select table items (Some cond) order) s = ap (λ (m : Meant). statement session m s) (select-told session s items cond order (table_named table (catalog s)))
+line-told session (Select table items (Some cond) order) s = ap (λ (rows : Result (List Row) Refusal). selected rows s) (select-told session s items cond order (table_named table (catalog s)))
 line-told session command s = refl
 
 stepped-told : (session : ℕ) (command : Command) (s : State) → stepped session command s ≡ stepped_told session (told command) s
