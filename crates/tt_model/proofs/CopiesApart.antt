@@ -220,7 +220,7 @@ module _ (u : Option Underway) where
 
   pub line-aside : (session : ℕ) (command : Command) (stale : ℕ → ℕ → Bool) (s : State) → is_checkpoint command ≡ false → holds (aside stale u s) ≡ holds s →
       AnswersAside u (line session command s) (line session command (aside stale u s))
-  unfolding line
+  unfolding line meant_by_select
   line-aside session (Insert table values) stale s n h = by_statement session (Insert table values) stale s
   line-aside session (Update table sets cond) stale s n h = by_statement session (Update table sets cond) stale s
   line-aside session (Delete table cond) stale s n h = by_statement session (Delete table cond) stale s

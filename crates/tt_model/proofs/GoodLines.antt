@@ -11,7 +11,7 @@ use Rattle.tt_model.specs.Tables.{PlacedRow}
 use Rattle.tt_model.specs.State.{State, Reader, Underway, cells_of, live_in, all_forced}
 use Rattle.tt_model.specs.declared.definition.CellEdit.{CellEdit}
 use Rattle.tt_model.specs.Checkpoint.{begin_checkpoint, copied, with_copies, with_all_copies, complete_where_due, completed, with_completion}
-use Rattle.tt_model.specs.Meaning.{Meant, Makes, Refuses, meant_by_select}
+use Rattle.tt_model.specs.Meaning.{Meant, Makes, Refuses, first_of, meant_by_select}
 use Rattle.tt_model.specs.System.{bookmark, bookmark_values, in_transaction, acknowledge, rewrites, meant_by_acknowledge, reader_at, reader_row}
 use Rattle.tt_model.specs.Step.{Step, Answers, line, unless_refused, system, system_done, no_system_position, checkpoint_open, no_checkpoint_number, least_open, begun_reply, completion_after}
 use Rattle.tt_model.specs.Sound.{IsSound}

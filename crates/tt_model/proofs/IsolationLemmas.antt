@@ -16,7 +16,7 @@ use Rattle.tt_model.specs.Committed.{Cells, put, is_full, changed, changed_by}
 use Rattle.tt_model.specs.Live.{live, is_live, touched, in_use, view_of, numbers_from}
 use Rattle.tt_model.specs.Tables.{Table, PlacedRow, row_in, row_at, rows_of, in_order, table_of, index_of, by_number, catalog_of, table_named, Catalog}
 use Rattle.tt_model.specs.Conditions.{takes}
-use Rattle.tt_model.specs.Meaning.{select_refusal, shown, order_cmp, select_in, rows_seen, meant_by_select}
+use Rattle.tt_model.specs.Meaning.{rows_unless, select_refusal, shown, order_cmp, select_in, rows_seen, meant_by_select}
 use Rattle.tt_value.specs.declared.refusal.Refusal.TheVariants.{NoTable}
 use Rattle.tt_model.specs.State.{State, Underway, trail, view, cells_of, bound, catalog}
 use Rattle.tt_model.specs.declared.definition.CellEdit.{CellEdit}

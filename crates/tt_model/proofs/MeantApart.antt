@@ -1,5 +1,5 @@
 -- What lines mean depends neither on the stale pages nor on the checkpoint under way.
-use Rattle.std.proofs.Common.{◌≡◌, ℕ, Bool, [], ◌∷◌, Option, Some, None, refl, ap}
+use Rattle.std.proofs.Common.{◌≡◌, ℕ, Bool, true, false, [], ◌∷◌, Option, Some, None, refl, ap}
 use Rattle.tt_value.specs.declared.refusal.Refusal.TheVariants.{NoSet, NotIncremental}
 use Rattle.tt_parse.specs.declared.command.Command.{Command}
 use Rattle.tt_parse.specs.declared.command.Command.TheVariants.{CreateTable, DropTable, CreateIndex, DropIndex, Insert, Update, Delete, Select, XlaCreate, XlaDelete, XlaSubscribe, XlaUnsubscribe, XlaAcknowledge}

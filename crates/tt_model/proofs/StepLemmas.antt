@@ -22,7 +22,7 @@ use Rattle.tt_model.proofs.PositionLemmas.{next_place-onward}
 use Rattle.tt_model.proofs.SoundLines.{sound-all_forced, sound-with_copies, sound-completion_after, sound-begin_checkpoint, sound-with_all_copies, sound-with_completion}
 use Rattle.tt_model.proofs.LineLemmas.{sound-unless, sound-system_new, sound-statement, create_table-new, create_index_new, create_bookmark-new, subscribe_new, sound-commit_of, sound-rollback_of, sound_opened_if, sound-given, sound-closed, selected-has}
 use Rattle.tt_model.proofs.StatementLemmas.{insert-MayEdit, update-MayEdit, delete-MayEdit, insert-users, update-users, delete-users}
-use Rattle.tt_model.proofs.SystemLines.{sound-system_rows, drop_table-good, drop_index-good, delete_bookmark-good, unsubscribe-good, acknowledge-good, sound-backup_kind}
+use Rattle.tt_model.proofs.SystemLines.{sound-system_rows, drop_table-good, drop_index-good, delete_bookmark-good, unsubscribe-good, acknowledge-good, sound-backup_line}
 use Rattle.tt_parse.specs.declared.command.Command.TheVariants.{CreateTable, DropTable, CreateIndex, DropIndex, Insert, Update, Delete, Select, Commit as CommitLine, Rollback, DurableCommit, Flush, Ckpt, CkptBlocking, LogHolds, Bookmark, Backup as BackupLine, XlaCreate, XlaDelete, XlaSubscribe, XlaUnsubscribe, XlaOpen, XlaNext, XlaAcknowledge, XlaClose}
 use Rattle.std.specs.Option.{option_or}
 use Rattle.tt_model.specs.Meaning.{meant_by_insert, meant_by_update, meant_by_delete, meant_by_select}

@@ -111,13 +111,13 @@ low_now s = low (write_position s) (trail s)
 abbrev pub newest_number : State → ℕ
 newest_number s = number_of (s.heads s.newest)
 
--- the scan positions that checkpoint files hold
-abbrev pub scan_held_by : Option Underway → State → ℕ → Option Position
-scan_held_by None s file = scan_of (s.heads file)
-scan_held_by (Some b) s file = if nat_eq b.file file then Some b.scan else scan_of (s.heads file)
+-- The scan positions that checkpoint files hold: of one under way that of its round, of any other that of its header.
+abbrev pub scan_held_by : Option Underway → (ℕ → Option Head) → ℕ → Option Position
+scan_held_by None heads file = scan_of (heads file)
+scan_held_by (Some b) heads file = if nat_eq b.file file then Some b.scan else scan_of (heads file)
 
 abbrev pub scan_held : State → ℕ → Option Position
-scan_held s file = scan_held_by s.underway s file
+scan_held s file = scan_held_by s.underway s.heads file
 
 abbrev pub holds : State → List Hold
 holds s = holds_of (scan_held s) (bound s) (cells_of s) (trail s)
