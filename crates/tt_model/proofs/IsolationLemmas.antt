@@ -19,7 +19,6 @@ use Rattle.tt_model.specs.Conditions.{takes}
 use Rattle.tt_model.specs.Meaning.{rows_unless, select_refusal, shown, order_cmp, select_in, rows_seen, meant_by_select}
 use Rattle.tt_value.specs.declared.refusal.Refusal.TheVariants.{NoTable}
 use Rattle.tt_model.specs.State.{State, Underway, trail, view, cells_of, bound, catalog}
-use Rattle.tt_model.specs.declared.definition.CellEdit.{CellEdit}
 use Rattle.tt_model.specs.Sound.{IsSound}
 use Rattle.tt_model.specs.Checkpoint.{copied, with_copies}
 use Rattle.tt_model.specs.Step.{line, selected}

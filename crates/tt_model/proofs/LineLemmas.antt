@@ -4,14 +4,10 @@ use Rattle.std.specs.Prelude.{option_map, Result, Ok, Err}
 use Rattle.std.specs.Option.{option_or}
 use Rattle.tt_value.specs.declared.refusal.Refusal.{Refusal}
 use Rattle.tt_value.specs.declared.refusal.Refusal.TheVariants.{BookmarkBusy}
-use Rattle.tt_parse.specs.declared.cond.Cond.{Cond}
-use Rattle.tt_parse.specs.declared.command.Items.{Items}
-use Rattle.tt_parse.specs.declared.command.Items.TheVariants.{All, Columns, Sums}
 use Rattle.tt_value.specs.declared.value.Row.{Row}
-use Rattle.tt_parse.specs.declared.command.OrderItem.{OrderItem}
 use Rattle.tt_parse.specs.declared.command.ColumnText.{ColumnText}
 use Rattle.tt_model.specs.Tables.{Table, PlacedRow, table_named, whole_number_of}
-use Rattle.tt_model.specs.Meaning.{Meant, Makes, Refuses, unless, first_of}
+use Rattle.tt_model.specs.Meaning.{Meant, Makes, Refuses, unless}
 use Rattle.tt_model.specs.System.{least_unused, column_rows, create_index, subscribe, reader_on, bookmark, meant_by_create_table, meant_by_create_index, meant_by_create_bookmark, meant_by_subscribe}
 use Rattle.tt_model.specs.State.{State, Reader, next, catalog}
 use Rattle.tt_model.specs.declared.definition.CellEdit.{CellEdit}

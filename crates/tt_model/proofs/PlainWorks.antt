@@ -14,11 +14,11 @@ use Rattle.tt_value.specs.Stored.{IsCell}
 use Rattle.tt_set.specs.declared.settings.Settings.{Settings}
 use Rattle.tt_model.specs.Opened.{Opened}
 use Rattle.tt_model.specs.Sets.{SetStanding}
-use Rattle.tt_model.specs.Tables.{Catalog, table_named}
+use Rattle.tt_model.specs.Tables.{Catalog}
 use Rattle.tt_model.specs.Meaning.{Makes}
 use Rattle.tt_model.specs.Meant.{meant}
 use Rattle.tt_model.specs.System.{bookmark}
-use Rattle.tt_model.specs.State.{Underway, Reader, State, all_forced, catalog, lengths_fit, live_in, next, reversals, trail, with_entry}
+use Rattle.tt_model.specs.State.{Underway, Reader, State, all_forced, lengths_fit, live_in, next, reversals, trail, with_entry}
 use Rattle.tt_model.specs.declared.definition.CellEdit.{CellEdit}
 use Rattle.tt_model.specs.Checkpoint.{copied, with_copies}
 use Rattle.tt_model.specs.Ranges.{HasRanges}

@@ -4,7 +4,7 @@ use Rattle.tt_model.specs.GoodRows.{RowsStayGood, UsersRowsStayGood}
 use Rattle.tt_model.specs.GoodCatalog.{CatalogStaysGood}
 use Rattle.tt_model.specs.Opening.{FirstImagesOpen}
 use Rattle.tt_model.specs.StepLaws.{CatalogIsBelowItsBound, CopiesAndLinesAreApart, EntriesLieEndToEnd, FirstChangesFoundCommitted, FreePlaceIsAmongUsed, GoodRowsAreStorable, RefusedLinesLeaveAll, StepsAreDetermined, StepsGoOn, WorksAreNumbered, WorksArePlain}
-use Rattle.tt_model.specs.Works.{EndFits, LinesAreWorks, WorksFit}
+use Rattle.tt_model.specs.Works.{LinesAreWorks}
 use Rattle.tt_model.specs.WholeRuns.{BookmarksStay, ForcedEntriesAreFound, HeldOnceInRuns, HeldOnceStays, LogFilesAreKept, ReadersGoInOrder, SelectsAreIsolated, TrailsGoOn}
 use Rattle.tt_model.proofs.AppendLemmas.{cells-Abort, cells-Change, cells-Commit, cells-Commit_view, cells-Mark, forced_for-cases, forced_for-least, forced_for-most, live-Abort, live-Change, live-Commit, live-Mark, live-behind_mark, next-Abort, next-Change, next-Commit, next-Mark, trail-with_entry, view-Abort, view-Change, view-Change_other, view-Change_without, view-Commit, view-Mark, write_position-with_entry}
 use Rattle.tt_model.proofs.ConflictLemmas.{seen_row-mine, seen_row-none}

@@ -7,10 +7,6 @@ use Rattle.tt_value.specs.declared.refusal.Refusal.TheVariants.{BookmarkBusy}
 use Rattle.tt_value.specs.declared.reply.Reply.{Reply}
 use Rattle.tt_value.specs.declared.reply.Reply.TheVariants.{Done, Changed}
 use Rattle.tt_parse.specs.declared.command.Command.{Command}
-use Rattle.tt_parse.specs.declared.command.Items.{Items}
-use Rattle.tt_parse.specs.declared.command.Items.TheVariants.{All, Columns, Sums}
-use Rattle.tt_parse.specs.declared.command.OrderItem.{OrderItem}
-use Rattle.tt_parse.specs.declared.cond.Cond.{Cond}
 use Rattle.tt_parse.specs.declared.command.Command.TheVariants.{CreateTable, DropTable, CreateIndex, DropIndex, Insert, Update, Delete, Select, Commit as CommitLine, Rollback, DurableCommit, Flush, Ckpt, CkptBlocking, LogHolds, Bookmark, Backup as BackupLine, XlaCreate, XlaDelete, XlaSubscribe, XlaUnsubscribe, XlaOpen, XlaNext, XlaAcknowledge, XlaClose}
 use Rattle.tt_record.specs.declared.entry.Entry.{Entry}
 use Rattle.tt_record.specs.declared.entry.Entry.TheVariants.{Change, Commit, Abort}
@@ -22,13 +18,13 @@ use Rattle.tt_model.specs.Opened.{Opened}
 use Rattle.tt_model.specs.Forced.{forced_for}
 use Rattle.tt_model.specs.Live.{least_free, in_use, pages_after}
 use Rattle.tt_model.specs.Committed.{committed}
-use Rattle.tt_model.specs.Meaning.{Meant, Refuses, Makes, first_of, meant_by_select}
-use Rattle.tt_model.specs.Tables.{PlacedRow, Table, table_named}
+use Rattle.tt_model.specs.Meaning.{Meant, Refuses, Makes, meant_by_select}
+use Rattle.tt_model.specs.Tables.{PlacedRow}
 use Rattle.tt_model.specs.Sets.{SetStanding, Readable}
 use Rattle.tt_model.specs.System.{bookmark, deletes, reader_on}
 use Rattle.tt_model.specs.Checkpoint.{begin_checkpoint, begun_in, completed, copied, with_all_copies, with_completion}
 use Rattle.tt_model.specs.Backups.{backup_refusal, row_of_set, set_edit, full_now, extended_now, with_set, SetWork, MakesSet, ContinuesSet, EndsSet, set_work}
-use Rattle.tt_model.specs.State.{State, catalog, Underway, Reader, all_forced, at_one, free_place, live_in, next, place_for, placed, reversals, trail, with_edit, with_edits, with_entry, write_position}
+use Rattle.tt_model.specs.State.{State, Underway, Reader, all_forced, at_one, free_place, live_in, next, place_for, placed, reversals, trail, with_edit, with_edits, with_entry, write_position}
 use Rattle.tt_model.specs.declared.definition.CellEdit.{CellEdit}
 use Rattle.tt_model.specs.Step.{backed_up, backup_position, begun_reply, checkpoint_open, closed, commit_of, edit_length, end_length, forced_where, given, is_durable, least_open, line, made, made_in, no_checkpoint_number, no_number_for, no_position, no_system_position, number_for, open_at, refused, rollback_lengths, rollback_of, rolled_back, session_ended, statement, system, system_done, unless_refused as answer_unless, no_skip, given_to, next_read_of, backup_line}
 use Rattle.tt_model.specs.Run.{ended, ended_one, has_position, roll_all}

@@ -1,5 +1,5 @@
 -- One line: what it does to the state, and what it is answered.
-use Rattle.std.specs.Prelude.{◌≡◌, ◌⊎◌, ◌&&◌, ℕ, suc, ◌+◌, ◌^◌, Bool, true, false, not, ◌||◌, nat_le, nat_lt, List, [], ◌∷◌, ◌++◌, map, length, take, option_map, is_some, Option, Some, None, Result, Ok, Err, if◌then◌else◌}
+use Rattle.std.specs.Prelude.{◌≡◌, ◌⊎◌, ◌&&◌, ℕ, suc, ◌+◌, Bool, true, false, not, ◌||◌, nat_le, nat_lt, List, [], ◌∷◌, ◌++◌, map, length, take, option_map, is_some, Option, Some, None, Result, Ok, Err, if◌then◌else◌}
 use Rattle.std.specs.Option.{option_or}
 use Rattle.tt_value.specs.declared.refusal.Refusal.{Refusal}
 use Rattle.tt_value.specs.declared.refusal.Refusal.TheVariants.{LogOut, CkptOpen, TransactionOpen, NoReader, NoBookmark, BookmarkBusy, NoMemory}

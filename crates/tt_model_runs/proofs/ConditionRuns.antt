@@ -25,7 +25,7 @@ use Rattle.tt_model.specs.Tables.{Table, PlacedRow, in_order, table_named}
 use Rattle.tt_model.specs.Conditions.{truth, truth_at, has_columns, columns_at, has_kinds, kinds_at, is_column}
 use Rattle.tt_model.specs.State.{State, catalog, write_position}
 use Rattle.tt_value.specs.declared.position.Position.{Position}
-use Rattle.tt_model.specs.Meaning.{Meant, Refuses, Makes, refused_if, first_of, unless, full, rows_seen, key_order, order_cmp, delete_row_refusal, sets_refusal, update_rows, makes, items_columns, sums_text, shown, delete_from, update_in, select_in, meant_by_delete, meant_by_update, meant_by_select}
+use Rattle.tt_model.specs.Meaning.{rows_unless, Meant, Refuses, Makes, refused_if, first_of, unless, full, rows_seen, key_order, order_cmp, delete_row_refusal, sets_refusal, update_rows, makes, items_columns, sums_text, shown, delete_from, update_in, select_in, meant_by_delete, meant_by_update, meant_by_select}
 use Rattle.tt_model.specs.Checkpoint.{with_copies}
 use Rattle.tt_model.specs.Step.{Answered, line, stepped, statement, completion_after, selected}
 
