@@ -2,7 +2,7 @@
 use Rattle.std.specs.Prelude.{◌+◌, ◌*◌, ◌-◌, ◌^◌, ◌==◌, ◌&&◌, ℕ, Bool, false, if◌then◌else◌, nat_le, List, [], ◌∷◌, ◌++◌, length, take, drop, replicate, slice_index, Option, Some, None, ◌≡◌, ◌≤◌, max}
 use Rattle.tt_value.specs.BigEndian.{number, big_endian}
 use Rattle.tt_disk.specs.Volume.{bytes_of, written}
-use Rattle.tt_cells.specs.Limits.{PAGE_BYTES, PAGES_END}
+use Rattle.tt_cells.specs.Limits.{page_size, pages_end}
 use Rattle.tt_image.specs.declared.head.ImageHead.{ImageHead}
 use Rattle.tt_image.specs.declared.head.HeadRead.{HeadRead}
 use Rattle.tt_image.specs.declared.head.HeadRead.TheVariants.{Absent, Closed, Bad, Whole}
@@ -63,11 +63,11 @@ is_within least most n = nat_le least n && nat_le n most
 
 -- each field is in its range
 abbrev pub is_head : ImageHead → Bool
-is_head h = is_within 1 (numbers_end - 1) h.number && nat_le h.scan.file last_log && nat_le h.scan.offset log_most && nat_le h.pages PAGES_END && is_within 1 numbers_end h.next_transaction && is_within 1 last_database h.database
+is_head h = is_within 1 (numbers_end - 1) h.number && nat_le h.scan.file last_log && nat_le h.scan.offset log_most && nat_le h.pages pages_end && is_within 1 numbers_end h.next_transaction && is_within 1 last_database h.database
 
 -- where a page begins; so the pages below a number end where that one begins
 abbrev pub page_start : ℕ → ℕ
-page_start page = head_size + PAGE_BYTES * page
+page_start page = head_size + page_size * page
 
 -- the gate byte is there and open
 abbrev pub is_open : List ℕ → Bool

@@ -3,7 +3,7 @@ use Rattle.std.specs.Prelude.{◌+◌, ◌*◌, ◌-◌, ◌^◌, ◌==◌, ◌&
 use Rattle.tt_value.specs.BigEndian.{number, big_endian}
 use Rattle.tt_disk.specs.Volume.{bytes_of, written}
 use Rattle.tt_cells.specs.Copies.{pages_of}
-use Rattle.tt_cells.specs.Limits.{PAGE_BYTES, PAGES_END}
+use Rattle.tt_cells.specs.Limits.{page_size, pages_end}
 use Rattle.tt_image.specs.declared.head.ImageHead.{ImageHead}
 use Rattle.tt_image.specs.declared.head.HeadRead.{HeadRead}
 use Rattle.tt_image.specs.declared.head.HeadRead.TheVariants.{Absent, Closed, Bad, Whole}
@@ -16,7 +16,7 @@ padded n bytes = take n (bytes ++ replicate n 0)
 
 -- the bytes of a page, with zeros past the file's end
 unfoldable pub page_of : ℕ → Option (List ℕ) → List ℕ
-page_of page file = padded PAGE_BYTES (drop (page_start page) (bytes_of file))
+page_of page file = padded page_size (drop (page_start page) (bytes_of file))
 
 -- the file with these pages written, one after the other
 abbrev pub with_pages : List PageCopy → Option (List ℕ) → Option (List ℕ)
