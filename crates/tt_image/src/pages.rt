@@ -12,7 +12,7 @@ ghost use Rattle.tt_disk.specs.Volume.{OnlyAt};
 ghost use Rattle.tt_cells.specs.Limits.{page_size};
 ghost use Rattle.tt_cells.specs.Copies.{AreWhole, pages_of};
 ghost use Rattle.tt_image.specs.Head.{page_start};
-ghost use Rattle.tt_image.specs.Pages.{padded, page_of, page_at};
+ghost use Rattle.tt_image.specs.Pages.{padded, page_of, page_at, EndsRun};
 ghost use Rattle.tt_image.specs.Pages.{AreFrom, BeginWithin, with_pages};
 ghost use Rattle.tt_image.specs.Crash.{LeavesShut};
 
@@ -83,7 +83,7 @@ fn run_length(copies: &PageCopies, from: u32, end: u32) -> u32
     ensures some { 1 ≤ result }
     ensures within { from + result ≤ end }
     ensures run { AreFrom (page_at from copies.now.copies) (take result (drop from copies.now.copies)) }
-    ensures longest { from + result < end → page_at (from + result) copies.now.copies ≢ page_at from copies.now.copies + result }
+    ensures longest { from + result < end → EndsRun from result copies.now.copies }
 {
     let first = copies.page(from);
     for count in 1..end - from {
