@@ -10,7 +10,7 @@ use Rattle.tt_gate.specs.declared.gate.Gate.{Gate}
 use Rattle.tt_gate.specs.declared.gate.GateRefusal.{GateRefusal}
 use Rattle.tt_gate.specs.declared.gate.GateRefusal.TheVariants.{Failed}
 use Rattle.tt_gate.specs.Gate.{gate_in, gated}
-use Rattle.tt_gate.specs.Limits.{HEADER_LENGTH}
+use Rattle.tt_gate.specs.Limits.{header_length}
 use Rattle.tt_gate.specs.GateFile.{IsLaid, IsReady, IsEnd, HasHeader, RefusalHolds, CrashLeavesAtMost, CrashLeavesBatches, CrashLeavesFormer, CrashLeavesOneMore, CrashLeavesFormerOrMore, LieAt, name_of, gate_offset_of, staged_in, with_batch}
 
 -- the count of faults rose where the call failed, and an exact one stays where it was answered
@@ -55,7 +55,7 @@ GateSaysOn g name at volume answer = g.told → (answer ≡ Err Failed) ⊎ (ans
 
 -- the file has a byte behind its header
 abbrev pub IsLongOn : {V : Type 0} → Ghosts V → Name → V → Type 0
-IsLongOn g name volume = g.told → HEADER_LENGTH < size_of (g.now volume name)
+IsLongOn g name volume = g.told → header_length < size_of (g.now volume name)
 
 -- a call of the volume failed, or the file is refused so
 abbrev pub WalkRefusedOn : {V : Type 0} → Ghosts V → Name → V → GateRefusal → Type 0
