@@ -55,6 +55,11 @@ pub record StandsStill (old new : GateFile) : Type 0 where
   pub gate : new.gate ≡ old.gate
   pub staged : new.staged ≡ old.staged
 
+-- as many bytes are staged as before, or these bytes more
+abbrev pub MayStage : GateFile → List ℕ → GateFile → Type 0
+MayStage old bytes new =
+    (staged_bytes_of new ≡ staged_bytes_of old) ⊎ (staged_bytes_of new ≡ staged_bytes_of old + length bytes)
+
 -- the file is whole and stands as the last call with it left it
 pub record IsLaid (file : GateFile) (now : Name → Option (List ℕ)) : Type 0 where
   pub whole : IsOk (gated (now file.name))

@@ -4,7 +4,7 @@
 //! length and the closed gate behind it are written and synced first, and the gate is opened by a
 //! write of one byte, which is synced too. A reader goes from gate to gate up to the first closed
 //! one, and so never looks at bytes that a crash may have torn.
-ghost use Rattle.std.specs.Prelude.{◌≡◌, ◌⊎◌, ◌+◌, ◌^◌, ◌<◌, ◌≤◌, Option, List, [], ◌∷◌, ◌++◌, ℕ, length, OnOk, OnErr, IfOk, IsErrOf, IfErr};
+ghost use Rattle.std.specs.Prelude.{◌≡◌, ◌+◌, ◌^◌, ◌<◌, ◌≤◌, Option, List, [], ◌∷◌, ◌++◌, ℕ, length, OnOk, OnErr, IfOk, IsErrOf, IfErr};
 ghost use Rattle.tt_disk.specs.Calls.{KeepsFiles, ChangesOnly, SettlesFile};
 ghost use Rattle.tt_gate.specs.Limits.{longest_file};
 
@@ -81,9 +81,9 @@ impl GateFile {
     ghost use Rattle.tt_gate.specs.Calls.{HasCauseOn, RoseWhereOn};
     ghost use Rattle.tt_gate.specs.Calls.{IsReadyOn, IsLaidOn, HasBytesOn, ReadsOn, IsWholeOn, RefusalHoldsOn, KeepsBatchesOn, StagesOn, KeepsStagedOn, StagedLiesOn};
     ghost use Rattle.tt_gate.specs.Calls.{AddsBatchOn, AddsStagedOn, StaysAtMostOn, CrashKeepsBatchesOn, CrashLeavesFormerOn, CrashLeavesOneMoreOn};
-    ghost use Rattle.tt_gate.specs.Calls.{CrashAddsStagedOn, CrashLeavesBatchOn, CrashLeavesFormerOrMoreOn};
+    ghost use Rattle.tt_gate.specs.Calls.{CrashAddsStagedOn, SyncedLeavesBatchOn, CrashLeavesFormerOrMoreOn};
     ghost use Rattle.tt_gate.specs.Limits.{new_file_length};
-    ghost use Rattle.tt_gate.specs.GateFile.{IsEnd, IsFresh, IsLaid, IsSynced, StandsStill};
+    ghost use Rattle.tt_gate.specs.GateFile.{IsEnd, IsFresh, IsLaid, IsSynced, MayStage, StandsStill};
     ghost use Rattle.tt_gate.specs.GateFile.{name_of, gate_offset_of, staged_bytes_of};
 
     /// Makes the file, with this header and no batch, and syncs it. A file of this name that is
@@ -224,12 +224,11 @@ impl GateFile {
 
         // After a failure, what was staged before still is, and the body too or not.
         ensures gate { OnErr result (gate_offset_of self.new ≡ gate_offset_of self.old) }
-        ensures still { OnErr result ((staged_bytes_of self.new ≡ staged_bytes_of self.old)
-            ⊎ (staged_bytes_of self.new ≡ staged_bytes_of self.old + length body.now)) }
+        ensures still { OnErr result (MayStage self.old body.now self.new) }
 
         // A value that says after a failure that its file was synced says so rightly.
-        ensures truth { OnErr result (IsSynced self.new
-            → CrashLeavesBatchOn V.Volume self.old body.now volume.old volume.new) }
+        ensures truth { OnErr result
+            (SyncedLeavesBatchOn V.Volume self.old volume.old body.now self.new volume.new) }
         ensures crash { CrashLeavesFormerOrMoreOn V.Volume self.old body.now volume.old volume.new }
         ensures others { ChangesOnly V.Volume (name_of self.old) volume.old volume.new }
         ensures cause { HasCauseOn V.Volume volume.old volume.new result }
@@ -244,9 +243,7 @@ impl GateFile {
         ensures ready { IsReadyOn V.Volume self.new volume.new }
         ensures done { OnOk result (IsSynced self.new) }
         ensures unchanged { OnErr result (self.new ≡ self.old) }
-        ensures same { (name_of self.new ≡ name_of self.old)
-            × (gate_offset_of self.new ≡ gate_offset_of self.old)
-            × (staged_bytes_of self.new ≡ staged_bytes_of self.old) }
+        ensures same { StandsStill self.old self.new }
 
         // A file that was synced since it was found isn't synced again.
         ensures quiet { IsSynced self.old → volume.new ≡ volume.old }
