@@ -6,7 +6,7 @@ use Rattle.tt_value.specs.Stored.{row_bytes, IsCell}
 use Rattle.tt_value.specs.declared.value.Row.{Row}
 use Rattle.tt_value.specs.declared.value.Cell.{Cell}
 use Rattle.tt_value.specs.declared.value.Cell.TheVariants.{Empty, Full}
-use Rattle.tt_cells.specs.Limits.{CELL_BYTES, PAGE_CELLS}
+use Rattle.tt_cells.specs.Limits.{cell_size, page_places}
 
 unfoldable pub zeros : ℕ → List ℕ
 zeros n = replicate n 0
@@ -22,7 +22,7 @@ front_bytes (Full table row) = full_bytes table row
 
 -- the front, and zeros to the end
 unfoldable pub cell_bytes : Cell → List ℕ
-cell_bytes c = front_bytes c ++ zeros (CELL_BYTES - length (front_bytes c))
+cell_bytes c = front_bytes c ++ zeros (cell_size - length (front_bytes c))
 
 -- the bytes are those of the cell
 pub record IsCellOf (bytes : List ℕ) (c : Cell) : Type 0 where

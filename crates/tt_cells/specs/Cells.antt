@@ -7,7 +7,7 @@ use Rattle.std.specs.FinMap as finite
 use Rattle.tt_value.specs.Stored.{IsCell}
 use Rattle.tt_value.specs.declared.value.Cell.{Cell}
 use Rattle.tt_value.specs.declared.value.Cell.TheVariants.{Empty, Full}
-use Rattle.tt_cells.specs.Limits.{PAGE_CELLS, PLACES_END, PAGES_END}
+use Rattle.tt_cells.specs.Limits.{page_places, places_end, pages_end}
 use Rattle.tt_cells.specs.CellCodes.{cell_code}
 use Rattle.tt_cells.specs.NumberSet.{Numbers}
 use Rattle.tt_cells.specs.ReadingCells.{or_empty}
@@ -41,6 +41,17 @@ book_code =
 abbrev pub cell_at : Book → ℕ → Cell
 cell_at b place = or_empty (finite.get b.full place)
 
+-- the limit on reserved places, in pages
+abbrev pub perm_pages_of : Book → ℕ
+perm_pages_of b = b.perm_pages
+
+-- how many pages there are
+abbrev pub page_count : Book → ℕ
+page_count b = b.pages
+
+abbrev pub reserved_places : Book → set.FinSet nat_cmp
+reserved_places b = b.reserved
+
 abbrev pub is_reserved : Book → ℕ → Bool
 is_reserved b place = set.contains b.reserved place
 
@@ -56,7 +67,7 @@ is_stale b file page = set.contains (stale_in file b) page
 
 -- as many places are reserved as the limit allows
 abbrev pub IsPermFull : Book → Type 0
-IsPermFull b = PAGE_CELLS * b.perm_pages ≤ reserved_count b
+IsPermFull b = page_places * b.perm_pages ≤ reserved_count b
 
 -- the numbers below n from one on, in order
 abbrev pub numbers_from : ℕ → ℕ → List ℕ
@@ -65,7 +76,7 @@ numbers_from (suc n) from = from ∷ numbers_from n (suc from)
 
 -- the cells of a page
 unfoldable pub page_cells : (ℕ → Cell) → ℕ → List Cell
-page_cells cells page = map cells (numbers_from PAGE_CELLS (PAGE_CELLS * page))
+page_cells cells page = map cells (numbers_from page_places (page_places * page))
 
 -- ---- what changes
 
@@ -81,9 +92,9 @@ empty_book perm_pages = record { perm_pages = perm_pages; pages = 0; full = fini
 unfoldable pub with_cell : ℕ → Cell → Book → Book
 with_cell place cell b = record b {
   full = put_cell place cell b.full;
-  pages = max (place / PAGE_CELLS + 1) b.pages;
-  stale_0 = set.insert b.stale_0 (place / PAGE_CELLS);
-  stale_1 = set.insert b.stale_1 (place / PAGE_CELLS);
+  pages = max (place / page_places + 1) b.pages;
+  stale_0 = set.insert b.stale_0 (place / page_places);
+  stale_1 = set.insert b.stale_1 (place / page_places);
 }
 
 abbrev pub with_reserved : ℕ → Book → Book
@@ -113,14 +124,14 @@ without_stale file page b = if file == 0 then record b { stale_0 = set.remove b.
 
 pub record IsSound (b : Book) : Type 0 where
   pub perm_some : 1 ≤ b.perm_pages
-  pub perm_most : b.perm_pages ≤ PAGES_END
-  pub pages_most : b.pages ≤ PAGES_END
+  pub perm_most : b.perm_pages ≤ pages_end
+  pub pages_most : b.pages ≤ pages_end
   -- each cell can be stored
   pub stored : (q : ℕ) → IsCell (cell_at b q)
   -- there is no row past the pages, and none in a place that isn't reserved
-  pub blank : (q : ℕ) → PAGE_CELLS * b.pages ≤ q → cell_at b q ≡ Empty
+  pub blank : (q : ℕ) → page_places * b.pages ≤ q → cell_at b q ≡ Empty
   pub unreserved : (q : ℕ) → is_reserved b q ≡ false → cell_at b q ≡ Empty
-  pub places : (q : ℕ) → is_reserved b q ≡ true → q < PLACES_END
+  pub places : (q : ℕ) → is_reserved b q ≡ true → q < places_end
   -- what is stale is a page
   pub marked_0 : (page : ℕ) → set.contains b.stale_0 page ≡ true → page < b.pages
   pub marked_1 : (page : ℕ) → set.contains b.stale_1 page ≡ true → page < b.pages
@@ -128,7 +139,7 @@ pub record IsSound (b : Book) : Type 0 where
 -- ---- how it is kept
 
 abbrev pub cell_among : List (List Cell) → ℕ → Cell
-cell_among pages q = get_or (get_or pages (q / PAGE_CELLS) []) (q % PAGE_CELLS) Empty
+cell_among pages q = get_or (get_or pages (q / page_places) []) (q % page_places) Empty
 
 -- the cells of the places below n
 unfoldable pub map_of : (ℕ → Cell) → ℕ → finite.FinMap nat_cmp Cell
@@ -136,13 +147,13 @@ map_of cells zero = finite.empty
 map_of cells (suc n) = put_cell n (cells n) (map_of cells n)
 
 unfoldable pub full_in : List (List Cell) → finite.FinMap nat_cmp Cell
-full_in pages = map_of (cell_among pages) (PAGE_CELLS * length pages)
+full_in pages = map_of (cell_among pages) (page_places * length pages)
 
 -- there is room for what a reserved place and a page take later
 pub record HasRoom (pages : ℕ) (kept : List (List Cell)) (reserved stale_0 stale_1 : Numbers) : Type 0 where
   pub counted : pages ≤ length kept
-  pub small : length kept ≤ PAGES_END
-  pub places : (q : ℕ) → set.contains reserved.members q ≡ true → q / PAGE_CELLS < length kept
+  pub small : length kept ≤ pages_end
+  pub places : (q : ℕ) → set.contains reserved.members q ≡ true → q / page_places < length kept
   pub marks_0 : length kept ≤ stale_0.room
   pub marks_1 : length kept ≤ stale_1.room
 

@@ -3,7 +3,7 @@ use Rattle.std.specs.Prelude.{◌≡◌, ◌≤◌, ◌*◌, ◌++◌, ℕ, List
 use Rattle.std.specs.List.{All, flat_map}
 use Rattle.std.specs.Coded.{Coded, code_by, coded×, coded_ℕ, coded_list}
 use Rattle.tt_cells.specs.declared.cells.PageCopy.{PageCopy}
-use Rattle.tt_cells.specs.Limits.{PAGE_BYTES, COPIES_MOST}
+use Rattle.tt_cells.specs.Limits.{page_size, copies_most}
 use Rattle.tt_cells.specs.Page.{page_bytes}
 use Rattle.tt_cells.specs.Cells.{Book, cell_at, page_cells}
 
@@ -45,12 +45,12 @@ joined copies = flat_map (λ (copy : PageCopy). copy.bytes) copies
 
 -- each has a page's bytes
 abbrev pub AreWhole : List PageCopy → Type 0
-AreWhole copies = All (λ (copy : PageCopy). length copy.bytes ≡ PAGE_BYTES) copies
+AreWhole copies = All (λ (copy : PageCopy). length copy.bytes ≡ page_size) copies
 
 -- what is always so
 pub record AreSound (c : Copies) : Type 0 where
   pub some : 1 ≤ c.room
-  pub most : c.room ≤ COPIES_MOST
+  pub most : c.room ≤ copies_most
   pub few : length c.copies ≤ c.room
   pub whole : AreWhole c.copies
 
@@ -62,13 +62,13 @@ copies_of size [] bytes = []
 copies_of size (page ∷ pages) bytes = record { page = page; bytes = take size bytes } ∷ copies_of size pages (drop size bytes)
 
 abbrev pub copies_in : ℕ → List ℕ → List ℕ → Copies
-copies_in count numbers bytes = record { room = length numbers; copies = copies_of PAGE_BYTES (take count numbers) bytes }
+copies_in count numbers bytes = record { room = length numbers; copies = copies_of page_size (take count numbers) bytes }
 
 pub record AreKept (count : ℕ) (numbers bytes : List ℕ) : Type 0 where
   pub some : 1 ≤ length numbers
-  pub most : length numbers ≤ COPIES_MOST
+  pub most : length numbers ≤ copies_most
   pub few : count ≤ length numbers
-  pub buffer : length bytes ≡ PAGE_BYTES * length numbers
+  pub buffer : length bytes ≡ page_size * length numbers
 
 -- these bytes put over those of the copy at a place
 abbrev pub put_at : ℕ → ℕ → List ℕ → List ℕ → List ℕ

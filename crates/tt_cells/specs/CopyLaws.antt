@@ -9,7 +9,7 @@ use Rattle.std.proofs.Math.Seq.{take-add}
 use Rattle.std.proofs.lemmas.List.Elements.{All-cons}
 use Rattle.std.proofs.lemmas.List.{take_at, take-take, drop-drop, drop-take, drop-append-le, take-append-le, take_more_set, length-take-le, length-set, get_or-take, with_items_is}
 use Rattle.tt_cells.specs.declared.cells.PageCopy.{PageCopy}
-use Rattle.tt_cells.specs.Limits.{PAGE_BYTES}
+use Rattle.tt_cells.specs.Limits.{page_size}
 use Rattle.tt_cells.specs.Copies.{Copies, with_copy, pages_of, joined, AreSound, copies_of, copies_in, AreKept, put_at}
 
 -- ---- laws on these, over any number of bytes a copy
@@ -88,10 +88,10 @@ each-copies_of size (page ∷ pages) bytes le =
 -- ---- laws on what is kept
 
 pub length-copies_in : (count : ℕ) (numbers buffer : List ℕ) → count ≤ length numbers → length (copies_in count numbers buffer).copies ≡ count
-length-copies_in count numbers buffer le = length-copies_of PAGE_BYTES (take count numbers) buffer ∙ length-take-le count numbers le
+length-copies_in count numbers buffer le = length-copies_of page_size (take count numbers) buffer ∙ length-take-le count numbers le
 
 pub page-copies_in : (count at : ℕ) (numbers buffer : List ℕ) → at < count → slice_index (pages_of (copies_in count numbers buffer).copies) at ≡ slice_index numbers at
-page-copies_in count at numbers buffer less = ap (λ (l : List ℕ). slice_index l at) (pages-copies_of PAGE_BYTES (take count numbers) buffer) ∙ get_or-take count numbers at 0 less
+page-copies_in count at numbers buffer less = ap (λ (l : List ℕ). slice_index l at) (pages-copies_of page_size (take count numbers) buffer) ∙ get_or-take count numbers at 0 less
 
 -- so many of them end within the buffer
 pub within_buffer : (size n count : ℕ) → n ≤ count → size * n ≤ size * count
@@ -106,8 +106,8 @@ kept_sound count numbers buffer kept = record {
   some = kept.some;
   most = kept.most;
   few = omega (arith, length-copies_in count numbers buffer kept.few, kept.few);
-  whole = each-copies_of PAGE_BYTES (take count numbers) buffer
-      (omega (arith, kept.buffer, within_buffer PAGE_BYTES (length (take count numbers)) (length numbers) (omega (arith, length-take count numbers))));
+  whole = each-copies_of page_size (take count numbers) buffer
+      (omega (arith, kept.buffer, within_buffer page_size (length (take count numbers)) (length numbers) (omega (arith, length-take count numbers))));
 }
 
 pub length-put_at : (size at : ℕ) (new buffer : List ℕ) → length new ≡ size → size * at + size ≤ length buffer → length (put_at size at new buffer) ≡ length buffer
@@ -124,11 +124,11 @@ length-put_at size at new buffer long le =
       length-drop start buffer,
     )
 
-pub copies_in_more : (count : ℕ) (numbers buffer : List ℕ) (copy : PageCopy) → count < length numbers → length buffer ≡ PAGE_BYTES * length numbers → length copy.bytes ≡ PAGE_BYTES
-    → copies_in (count + 1) (set numbers count copy.page) (put_at PAGE_BYTES count copy.bytes buffer) ≡ with_copy copy (copies_in count numbers buffer)
+pub copies_in_more : (count : ℕ) (numbers buffer : List ℕ) (copy : PageCopy) → count < length numbers → length buffer ≡ page_size * length numbers → length copy.bytes ≡ page_size
+    → copies_in (count + 1) (set numbers count copy.page) (put_at page_size count copy.bytes buffer) ≡ with_copy copy (copies_in count numbers buffer)
 copies_in_more count numbers buffer copy less filled long =
     ap₂ (λ (n : ℕ) (l : List PageCopy). let c : Copies = record { room = n; copies = l } in c) (length-set numbers count copy.page)
-    (copies_put PAGE_BYTES count copy.page numbers buffer copy.bytes long less (omega (arith, filled)))
+    (copies_put page_size count copy.page numbers buffer copy.bytes long less (omega (arith, filled)))
 
 -- where there is room for one more, its number and its bytes have a place
 pub next_within : (count : ℕ) (numbers buffer : List ℕ) (c : Copies) → AreKept count numbers buffer → copies_in count numbers buffer ≡ c → length c.copies < c.room → count < length numbers
@@ -136,31 +136,31 @@ next_within count numbers buffer c kept is less =
     omega (arith, less, length-copies_in count numbers buffer kept.few, ap (λ (x : Copies). length x.copies) is, ap (λ (x : Copies). x.room) is)
 
 -- what is kept when a copy was put behind the others
-pub kept_more : (count : ℕ) (numbers buffer numbers' buffer' : List ℕ) (copy : PageCopy) → AreKept count numbers buffer → count < length numbers → length copy.bytes ≡ PAGE_BYTES
-    → numbers' ≡ set numbers count copy.page → buffer' ≡ put_at PAGE_BYTES count copy.bytes buffer → AreKept (count + 1) numbers' buffer'
+pub kept_more : (count : ℕ) (numbers buffer numbers' buffer' : List ℕ) (copy : PageCopy) → AreKept count numbers buffer → count < length numbers → length copy.bytes ≡ page_size
+    → numbers' ≡ set numbers count copy.page → buffer' ≡ put_at page_size count copy.bytes buffer → AreKept (count + 1) numbers' buffer'
 kept_more count numbers buffer numbers' buffer' copy kept less long n b =
     let counted : length numbers' ≡ length numbers = ap length n ∙ length-set numbers count copy.page in
-    let within : PAGE_BYTES * count + PAGE_BYTES ≤ length buffer = omega (arith, one_within PAGE_BYTES count (length numbers) less, kept.buffer) in
-    let filled : length buffer' ≡ length buffer = ap length b ∙ length-put_at PAGE_BYTES count copy.bytes buffer long within in
+    let within : page_size * count + page_size ≤ length buffer = omega (arith, one_within page_size count (length numbers) less, kept.buffer) in
+    let filled : length buffer' ≡ length buffer = ap length b ∙ length-put_at page_size count copy.bytes buffer long within in
     record {
       some = omega (arith, kept.some, counted);
       most = omega (arith, kept.most, counted);
       few = omega (arith, less, counted);
-      buffer = filled ∙ kept.buffer ∙ ap (λ (k : ℕ). PAGE_BYTES * k) (sym counted);
+      buffer = filled ∙ kept.buffer ∙ ap (λ (k : ℕ). page_size * k) (sym counted);
     }
 
 -- what a vector of numbers and a vector of bytes have when a copy was put at a place
 module _ (numbers buffer : Vec ℕ Global) (count : ℕ) (n b : List ℕ) (copy : PageCopy)
-    (kept : AreKept count numbers.items buffer.items) (less : count < length numbers.items) (long : length copy.bytes ≡ PAGE_BYTES)
-    (number : n ≡ set numbers.items count copy.page) (bytes : b ≡ put_at PAGE_BYTES count copy.bytes buffer.items) where
-  within : PAGE_BYTES * count + PAGE_BYTES ≤ length buffer.items
-  within = omega (arith, one_within PAGE_BYTES count (length numbers.items) less, kept.buffer)
+    (kept : AreKept count numbers.items buffer.items) (less : count < length numbers.items) (long : length copy.bytes ≡ page_size)
+    (number : n ≡ set numbers.items count copy.page) (bytes : b ≡ put_at page_size count copy.bytes buffer.items) where
+  within : page_size * count + page_size ≤ length buffer.items
+  within = omega (arith, one_within page_size count (length numbers.items) less, kept.buffer)
 
   numbers_are : (with_items numbers n).items ≡ set numbers.items count copy.page
   numbers_are = with_items_is numbers n (ap length number ∙ length-set numbers.items count copy.page ∙ sym numbers.ok.0) ∙ number
 
-  bytes_are : (with_items buffer b).items ≡ put_at PAGE_BYTES count copy.bytes buffer.items
-  bytes_are = with_items_is buffer b (ap length bytes ∙ length-put_at PAGE_BYTES count copy.bytes buffer.items long within ∙ sym buffer.ok.0) ∙ bytes
+  bytes_are : (with_items buffer b).items ≡ put_at page_size count copy.bytes buffer.items
+  bytes_are = with_items_is buffer b (ap length bytes ∙ length-put_at page_size count copy.bytes buffer.items long within ∙ sym buffer.ok.0) ∙ bytes
 
   pub put_kept : AreKept (count + 1) (with_items numbers n).items (with_items buffer b).items
   put_kept = kept_more count numbers.items buffer.items _ _ copy kept less long numbers_are bytes_are

@@ -5,7 +5,7 @@ use Rattle.std.specs.Ordering.{nat_cmp}
 use Rattle.std.specs.Coded.{Coded, code_by, coded×, coded_ℕ}
 use Rattle.std.specs.FinSet as set
 use Rattle.tt_cells.specs.Bits.{ALL_BITS}
-use Rattle.tt_cells.specs.Limits.{PLACES_END}
+use Rattle.tt_cells.specs.Limits.{places_end}
 
 -- the numbers below n that pass a test
 unfoldable pub set_of : (ℕ → Bool) → ℕ → set.FinSet nat_cmp
@@ -37,7 +37,7 @@ pub record IsKept (words : List ℕ) (count full : ℕ) : Type 0 where
   pub counted : count ≡ set.len (members words)
   pub all_set : FullUpTo words full
   pub within : full ≤ length words
-  pub small : 64 * length words ≤ PLACES_END
+  pub small : 64 * length words ≤ places_end
 
 -- the least member from a number on
 pub record IsNext (s : set.FinSet nat_cmp) (from found : ℕ) : Type 0 where

@@ -5,7 +5,7 @@ use Rattle.std.specs.Ordering.{nat_cmp}
 use Rattle.std.specs.Coded.{Coded, code_by, coded×, coded_ℕ}
 use Rattle.std.specs.FinSet as set
 use Rattle.tt_cells.specs.Bits.{ALL_BITS}
-use Rattle.tt_cells.specs.Limits.{PLACES_END}
+use Rattle.tt_cells.specs.Limits.{places_end}
 use Rattle.tt_cells.specs.NumberSet.{Numbers, members}
 
 -- every number of a word of 64 is a member; the word number 0 has the numbers 0 to 63

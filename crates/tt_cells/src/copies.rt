@@ -5,8 +5,9 @@
 //! other, in ascending order, and hands the whole to the writer, which asks for the bytes of each run
 //! of pages. No call but `new` takes memory.
 ghost use Rattle.std.specs.Prelude.{◌≡◌, ◌<◌, ◌≤◌, ◌+◌, ◌*◌, ◌++◌, length, take, drop, set, slice_index, IfOk};
-ghost use Rattle.tt_cells.specs.Cells.{without_stale};
+ghost use Rattle.tt_cells.specs.Cells.{page_count, without_stale};
 ghost use Rattle.tt_cells.specs.Copies.{AreSound, copy_of, joined, no_copies, numbered, pages_of, put_at, with_copy};
+ghost use Rattle.tt_cells.specs.Limits.{copies_most, page_size};
 
 use crate::cells::Cells;
 use crate::{COPIES_MOST, PAGE_BYTES};
@@ -38,7 +39,7 @@ impl PageCopies {
     /// Room for 1 to 256 copies, none of them there.
     pub fn new(alloc: Global, room: u32) -> Result<PageCopies, AllocError>
         requires some { 1 ≤ room }
-        requires most { room ≤ COPIES_MOST }
+        requires most { room ≤ copies_most }
         ensures { IfOk result (λ c. c ≡ no_copies room) }
     {
         Ok(PageCopies {
@@ -89,7 +90,7 @@ impl PageCopies {
     /// Puts a copy of a page behind the others.
     pub fn push(&mut self, page: u32, bytes: &[u8])
         requires room { length self.old.copies < self.old.room }
-        requires bytes { length bytes.now ≡ PAGE_BYTES }
+        requires bytes { length bytes.now ≡ page_size }
         ensures { self.new ≡ with_copy (numbered page bytes.now) self.old }
     {
         let at = self.count as usize;
@@ -102,7 +103,7 @@ impl Cells {
     /// Puts a copy of a page behind the others, and the file then has the page. It takes no memory.
     pub fn copy_next(&mut self, file: u8, page: u32, into: &mut PageCopies)
         requires file { file ≤ 1 }
-        requires page { page < self.old.pages }
+        requires page { page < page_count self.old }
         requires room { length into.old.copies < into.old.room }
         ensures cells { self.new ≡ without_stale file page self.old }
         ensures copies { into.new ≡ with_copy (copy_of page self.old) into.old }
@@ -126,8 +127,8 @@ fn blank_bytes(alloc: Global, count: usize) -> Result<Vec<u8>, AllocError>
 
 // The bytes of so many pages from one on.
 fn piece(bytes: &[u8], from: usize, count: usize) -> &[u8]
-    requires { PAGE_BYTES * (from + count) ≤ length bytes.now }
-    ensures { result.now ≡ take (PAGE_BYTES * count) (drop (PAGE_BYTES * from) bytes.now) }
+    requires { page_size * (from + count) ≤ length bytes.now }
+    ensures { result.now ≡ take (page_size * count) (drop (page_size * from) bytes.now) }
 {
     let start = PAGE_BYTES * from;
     &bytes[start..start + PAGE_BYTES * count]
@@ -136,10 +137,10 @@ fn piece(bytes: &[u8], from: usize, count: usize) -> &[u8]
 // Puts a page's number and its bytes over those at a place.
 fn put(numbers: &mut [u32], bytes: &mut [u8], at: usize, page: u32, copied: &[u8])
     requires number { at < length numbers.old }
-    requires bytes { PAGE_BYTES * at + PAGE_BYTES ≤ length bytes.old }
-    requires copied { length copied.now ≡ PAGE_BYTES }
+    requires bytes { page_size * at + page_size ≤ length bytes.old }
+    requires copied { length copied.now ≡ page_size }
     ensures number { numbers.new ≡ set numbers.old at page }
-    ensures bytes { bytes.new ≡ put_at PAGE_BYTES at copied.now bytes.old }
+    ensures bytes { bytes.new ≡ put_at page_size at copied.now bytes.old }
 {
     numbers[at] = page;
     let start = PAGE_BYTES * at;

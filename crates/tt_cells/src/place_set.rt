@@ -2,6 +2,7 @@
 ghost use Rattle.std.specs.Prelude.{◌≡◌, ◌<◌, ◌≤◌, ◌+◌, if◌then◌else◌, OnOk, OnErr};
 ghost use Rattle.std.specs.FinSet as set;
 ghost use Rattle.tt_cells.specs.NumberSet.{IsLeastAbsent};
+ghost use Rattle.tt_cells.specs.Limits.{places_end};
 
 use crate::PLACES_END;
 use crate::number_set::NumberSet;
@@ -66,7 +67,7 @@ impl PlaceSet {
 
     /// Makes room for one more word, and for its mark.
     pub(crate) fn widen(&mut self) -> Result<(), AllocError>
-        requires { self.old.room < PLACES_END }
+        requires { self.old.room < places_end }
         ensures members { self.new.members ≡ self.old.members }
         ensures ok { OnOk result (self.new.room ≡ self.old.room + 64) }
         ensures err { OnErr result (self.new.room ≡ self.old.room) }

@@ -1,5 +1,6 @@
 -- What the steps of a reader of lines do.
 use Rattle.std.specs.Prelude.{◌≡◌, ◌<◌, ◌+◌, ◌++◌, ℕ, List, [], ◌∷◌, length, take, drop, Option, Some, None, Result, Ok, Err}
+use Rattle.std.specs.Io.KnownBytes.{Consumes}
 use Rattle.tt_flow.specs.declared.lines.LineReader.{LineReader}
 use Rattle.tt_disk.specs.declared.volume.Failed.{Failed}
 use Rattle.tt_flow.specs.declared.lines.Input.TheVariants.{Ended, Over}
@@ -66,6 +67,14 @@ TakesPast bytes (Ok More) old new = ⊥
 TakesPast bytes (Ok NoMore) old new = Took [] old new × (bytes ≡ []) × (new.input ≡ Ended)
 TakesPast bytes (Ok TooMany) old new = Took [] old new × (0 < length bytes) × (new.input ≡ Over)
 TakesPast bytes (Err failed) old new = Took [] old new × (bytes ≡ []) × (new.input ≡ old.input)
+
+-- The reader took bytes, and the source has just these no longer left.
+abbrev pub TakesOn : LineReader → Option (List ℕ) → Result Filled Failed → LineReader → Option (List ℕ) → Type 0
+TakesOn old before result new after = (bytes : List ℕ) × Takes bytes result old new × Consumes before after bytes
+
+-- The reader took bytes past the most of a script, and the source has just these no longer left.
+abbrev pub TakesPastOn : LineReader → Option (List ℕ) → Result Filled Failed → LineReader → Option (List ℕ) → Type 0
+TakesPastOn old before result new after = (bytes : List ℕ) × TakesPast bytes result old new × Consumes before after bytes
 
 -- Whatever lines were given of a script, a line more is given, or the reader has more bytes of it.
 abbrev pub ReadsPieceOn : LineReader → Option (List ℕ) → Result (Option LineRead) Failed → List ℕ → LineReader → Option (List ℕ) → Type 0

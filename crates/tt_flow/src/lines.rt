@@ -4,7 +4,7 @@
 //! takes more only where they have no line feed. Of a line that is too long no byte is kept.
 ghost use Rattle.std.specs.Prelude.{◌≡◌, ◌≢◌, ◌≤◌, ◌<◌, ◌+◌, ◌-◌, ◌++◌, ℕ, List, [], Option, Some, None, Ok, OnOk, MatchOption, length, take};
 ghost use Rattle.std.specs.Str.Lines.{strip_carriage_return};
-ghost use Rattle.std.specs.Io.KnownBytes.{Consumes, IsAtEnd};
+ghost use Rattle.std.specs.Io.KnownBytes.{IsAtEnd};
 ghost use Rattle.tt_disk.specs.Faults.{HasCause};
 ghost use Rattle.tt_flow.specs.PutsLine.{PutsLine};
 ghost use Rattle.tt_flow.specs.LineBuf.{line_most};
@@ -68,7 +68,7 @@ pub struct LineReader {
 
 impl LineReader {
     ghost use Rattle.tt_flow.specs.Lines.{HasGiven, Reads, HoldsLine, IsLine, IsOver, HasNoFeed, bytes_to_come, kept_bytes, ReadsOn};
-    ghost use Rattle.tt_flow.specs.Pieces.{IsFirstFeed, ChangesOnlyBuffer, KeepsGiven, GivesLine, ReadsPiece, IsPieceLine, Fills, Takes, TakesPast, ReadsPieceOn, FillsOn, HasNoMore};
+    ghost use Rattle.tt_flow.specs.Pieces.{IsFirstFeed, ChangesOnlyBuffer, KeepsGiven, GivesLine, ReadsPiece, IsPieceLine, Fills, ReadsPieceOn, FillsOn, TakesOn, TakesPastOn, HasNoMore};
 
     /// A reader that has read nothing.
     pub fn new() -> LineReader
@@ -263,7 +263,7 @@ impl LineReader {
         requires open { self.old.input ≡ Input.Open }
         requires room { self.old.end < buffer_size }
         requires most { self.old.taken < script_most }
-        ensures took { (bytes : List ℕ) × Takes bytes result self.old self.new × Consumes (S.left source.old) (S.left source.new) bytes }
+        ensures took { TakesOn self.old (S.left source.old) result self.new (S.left source.new) }
         ensures end { result ≡ Ok Filled.NoMore → IsAtEnd (S.left source.new) }
         ensures bound { bytes_to_come self.new ≤ bytes_to_come self.old }
         ensures cause { HasCause S.exact (S.faults source.old) (S.faults source.new) result }
@@ -282,7 +282,7 @@ impl LineReader {
     // Takes one byte more than a script has.
     fn take_past<S: Source>(&mut self, source: &mut S) -> Result<Filled, Failed>
         requires { self.old.input ≡ Input.Open }
-        ensures took { (bytes : List ℕ) × TakesPast bytes result self.old self.new × Consumes (S.left source.old) (S.left source.new) bytes }
+        ensures took { TakesPastOn self.old (S.left source.old) result self.new (S.left source.new) }
         ensures end { result ≡ Ok Filled.NoMore → IsAtEnd (S.left source.new) }
         ensures bound { bytes_to_come self.new ≤ bytes_to_come self.old }
         ensures cause { HasCause S.exact (S.faults source.old) (S.faults source.new) result }

@@ -2,7 +2,7 @@
 ghost use Rattle.std.specs.Prelude.{◌≡◌, ◌==◌, ◌≤◌, ◌/◌, ◌++◌, ◌⊎◌, ℕ, List, [], Some, true, false, IsOk, IsErr, OnErr, OnOk, IfOk, length, take, min, vec_len};
 ghost use Rattle.std.specs.List.{list_any};
 ghost use Rattle.std.specs.Io.{ReadsAtMost};
-ghost use Rattle.std.specs.Io.KnownBytes.{ReadConsumes, Appends};
+ghost use Rattle.std.specs.Io.KnownBytes.{ReadConsumes};
 ghost use Rattle.tt_disk.specs.Faults.{HasCause};
 ghost use Rattle.tt_disk.specs.Failing.{fails_at, fails_next, calls_made, IsCounted};
 
@@ -39,20 +39,19 @@ impl MemSource {
 }
 
 impl Source for MemSource {
-    ghost use Rattle.tt_flow.specs.Memory.{source_left, source_calls};
-    ghost use Rattle.tt_disk.specs.Failing.{calls_failed};
+    ghost use Rattle.tt_flow.specs.Memory.{source_left, source_calls, source_faults};
     ghost use Rattle.std.specs.Prelude.{Some};
 
     ghost left = { λ s. Some (source_left s) };
 
-    ghost faults = { λ s. calls_failed (source_calls s) };
+    ghost faults = { λ s. source_faults s };
 
     ghost exact = { Unit {0} };
 
     fn take(&mut self, buf: &mut [u8]) -> Result<usize, Failed>
         ensures bound { ReadsAtMost result buf.new }
-        ensures bytes { ReadConsumes (⟦<MemSource as Source>⟧.left self.old) (⟦<MemSource as Source>⟧.left self.new) result buf.new }
-        ensures cause { HasCause ⟦<MemSource as Source>⟧.exact (⟦<MemSource as Source>⟧.faults self.old) (⟦<MemSource as Source>⟧.faults self.new) result }
+        ensures bytes { ReadConsumes (Some (source_left self.old)) (Some (source_left self.new)) result buf.new }
+        ensures cause { HasCause (Unit {0}) (source_faults self.old) (source_faults self.new) result }
         ensures counted { IsCounted (source_calls self.old) (source_calls self.new) result }
         ensures unplanned { fails_next (source_calls self.old) ≡ false → IsOk result }
         // It fills the buffer where so many bytes are left.
@@ -118,20 +117,19 @@ impl MemSink {
 }
 
 impl Sink for MemSink {
-    ghost use Rattle.tt_flow.specs.Memory.{sink_given, sink_calls, IsHalfGiven};
-    ghost use Rattle.tt_disk.specs.Failing.{calls_failed};
+    ghost use Rattle.tt_flow.specs.Memory.{sink_given, sink_calls, sink_faults, AppendsPiece, AppendsPrefix, IsHalfGiven};
     ghost use Rattle.std.specs.Prelude.{Some};
 
     ghost given = { λ s. Some (sink_given s) };
 
-    ghost faults = { λ s. calls_failed (sink_calls s) };
+    ghost faults = { λ s. sink_faults s };
 
     ghost exact = { Unit {0} };
 
     fn put(&mut self, piece: &[u8]) -> Result<(), Failed>
-        ensures whole { OnOk result (Appends (⟦<MemSink as Sink>⟧.given self.old) (⟦<MemSink as Sink>⟧.given self.new) piece.now) }
-        ensures prefix { OnErr result ((n : ℕ) × Appends (⟦<MemSink as Sink>⟧.given self.old) (⟦<MemSink as Sink>⟧.given self.new) (take n piece.now)) }
-        ensures cause { HasCause ⟦<MemSink as Sink>⟧.exact (⟦<MemSink as Sink>⟧.faults self.old) (⟦<MemSink as Sink>⟧.faults self.new) result }
+        ensures whole { OnOk result (AppendsPiece piece.now self.old self.new) }
+        ensures prefix { OnErr result (AppendsPrefix piece.now self.old self.new) }
+        ensures cause { HasCause (Unit {0}) (sink_faults self.old) (sink_faults self.new) result }
         ensures counted { IsCounted (sink_calls self.old) (sink_calls self.new) result }
         // A call that is to fail appends the first half of its piece, where memory allows; any other that fails appends nothing.
         ensures half { fails_next (sink_calls self.old) ≡ true → IsHalfGiven piece.now self.old self.new }

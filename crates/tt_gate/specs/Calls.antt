@@ -10,8 +10,8 @@ use Rattle.tt_gate.specs.declared.gate.Gate.{Gate}
 use Rattle.tt_gate.specs.declared.gate.GateRefusal.{GateRefusal}
 use Rattle.tt_gate.specs.declared.gate.GateRefusal.TheVariants.{Failed}
 use Rattle.tt_gate.specs.Gate.{gate_in, gated}
-use Rattle.tt_gate.specs.Limits.{HEADER_LENGTH}
-use Rattle.tt_gate.specs.GateFile.{IsLaid, IsReady, IsEnd, HasHeader, RefusalHolds, CrashLeavesAtMost, CrashLeavesBatches, CrashLeavesFormer, CrashLeavesOneMore, CrashLeavesFormerOrMore, LieAt, name_of, gate_offset_of, staged_in, with_batch}
+use Rattle.tt_gate.specs.Limits.{header_length}
+use Rattle.tt_gate.specs.GateFile.{IsLaid, IsReady, IsEnd, HasHeader, IsSynced, RefusalHolds, CrashLeavesAtMost, CrashLeavesBatches, CrashLeavesFormer, CrashLeavesOneMore, CrashLeavesFormerOrMore, LieAt, name_of, gate_offset_of, staged_in, with_batch}
 
 -- the count of faults rose where the call failed, and an exact one stays where it was answered
 abbrev pub HasCauseOn : {V T E : Type 0} → Ghosts V → V → V → Result T E → Type 0
@@ -55,7 +55,7 @@ GateSaysOn g name at volume answer = g.told → (answer ≡ Err Failed) ⊎ (ans
 
 -- the file has a byte behind its header
 abbrev pub IsLongOn : {V : Type 0} → Ghosts V → Name → V → Type 0
-IsLongOn g name volume = g.told → HEADER_LENGTH < size_of (g.now volume name)
+IsLongOn g name volume = g.told → header_length < size_of (g.now volume name)
 
 -- a call of the volume failed, or the file is refused so
 abbrev pub WalkRefusedOn : {V : Type 0} → Ghosts V → Name → V → GateRefusal → Type 0
@@ -115,6 +115,11 @@ CrashLeavesOneMoreOn g file old new =
 abbrev pub CrashLeavesBatchOn : {V : Type 0} → Ghosts V → GateFile → List ℕ → V → V → Type 0
 CrashLeavesBatchOn g file bytes old new =
     g.told → CrashLeavesOneMore (gated (g.now old (name_of file))) (staged_in file (g.now old (name_of file)) ++ bytes) (g.may new (name_of file))
+
+-- where the value says after the call that its file was synced, a crash leaves the batches that the file had, or these and one
+-- of what was staged and these bytes
+abbrev pub SyncedLeavesBatchOn : {V : Type 0} → Ghosts V → GateFile → V → List ℕ → GateFile → V → Type 0
+SyncedLeavesBatchOn g file old bytes after new = IsSynced after → CrashLeavesBatchOn g file bytes old new
 
 -- a crash leaves what one before could leave, the batches that the file had, or these and one of what was staged and these bytes
 abbrev pub CrashLeavesFormerOrMoreOn : {V : Type 0} → Ghosts V → GateFile → List ℕ → V → V → Type 0

@@ -6,7 +6,7 @@ use Rattle.tt_gate.specs.declared.gate.GateRefusal.TheVariants.{Absent, BadHeade
 use Rattle.tt_disk.specs.declared.volume.Name.{Name}
 use Rattle.tt_gate.specs.declared.gate.GateFile.{GateFile}
 use Rattle.tt_gate.specs.Gate.{end_of, gated}
-use Rattle.tt_gate.specs.Limits.{HEADER_LENGTH}
+use Rattle.tt_gate.specs.Limits.{header_length}
 
 -- what a GateFile shows: the file that it stands for
 abbrev pub name_of : GateFile → Name
@@ -55,6 +55,11 @@ pub record StandsStill (old new : GateFile) : Type 0 where
   pub gate : new.gate ≡ old.gate
   pub staged : new.staged ≡ old.staged
 
+-- as many bytes are staged as before, or these bytes more
+abbrev pub MayStage : GateFile → List ℕ → GateFile → Type 0
+MayStage old bytes new =
+    (staged_bytes_of new ≡ staged_bytes_of old) ⊎ (staged_bytes_of new ≡ staged_bytes_of old + length bytes)
+
 -- the file is whole and stands as the last call with it left it
 pub record IsLaid (file : GateFile) (now : Name → Option (List ℕ)) : Type 0 where
   pub whole : IsOk (gated (now file.name))
@@ -97,7 +102,7 @@ IsEnd file end = (header : List ℕ) × (bodies : List (List ℕ)) × (gated fil
 
 -- the file begins with this header, and has a byte behind it
 abbrev pub HasHeader : List ℕ → Option (List ℕ) → Type 0
-HasHeader header file = (HEADER_LENGTH < size_of file) × (take HEADER_LENGTH (bytes_of file) ≡ header)
+HasHeader header file = (header_length < size_of file) × (take header_length (bytes_of file) ≡ header)
 
 -- what the refusal says is so
 abbrev pub RefusalHolds : List ℕ → Option (List ℕ) → GateRefusal → Type 0

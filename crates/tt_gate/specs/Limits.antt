@@ -2,17 +2,17 @@
 use Rattle.std.specs.Prelude.{◌^◌, ℕ}
 
 -- the header before the first gate
-abbrev pub HEADER_LENGTH : ℕ
-HEADER_LENGTH = 16
+abbrev pub header_length : ℕ
+header_length = 16
 
 -- where the first gate lies
-abbrev pub FIRST_GATE : ℕ
-FIRST_GATE = 16
+abbrev pub first_gate_at : ℕ
+first_gate_at = 16
 
 -- a file with no batch: its header and a closed gate
-abbrev pub NEW_FILE_LENGTH : ℕ
-NEW_FILE_LENGTH = 17
+abbrev pub new_file_length : ℕ
+new_file_length = 17
 
 -- the longest file of a volume
-abbrev pub LONGEST_FILE : ℕ
-LONGEST_FILE = 2 ^ 62
+abbrev pub longest_file : ℕ
+longest_file = 2 ^ 62

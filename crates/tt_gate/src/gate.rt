@@ -4,9 +4,9 @@
 //! length and the closed gate behind it are written and synced first, and the gate is opened by a
 //! write of one byte, which is synced too. A reader goes from gate to gate up to the first closed
 //! one, and so never looks at bytes that a crash may have torn.
-ghost use Rattle.std.specs.Prelude.{◌≡◌, ◌⊎◌, ◌+◌, ◌^◌, ◌<◌, ◌≤◌, Option, List, [], ◌∷◌, ◌++◌, ℕ, length, OnOk, OnErr, IfOk, IsErrOf, IfErr};
+ghost use Rattle.std.specs.Prelude.{◌≡◌, ◌+◌, ◌^◌, ◌<◌, ◌≤◌, Option, List, [], ◌∷◌, ◌++◌, ℕ, length, OnOk, OnErr, IfOk, IsErrOf, IfErr};
 ghost use Rattle.tt_disk.specs.Calls.{KeepsFiles, ChangesOnly, SettlesFile};
-ghost use Rattle.tt_gate.specs.Limits.{LONGEST_FILE};
+ghost use Rattle.tt_gate.specs.Limits.{longest_file};
 
 use crate::walk::{check_header, last_gate};
 use tt_disk::{Failed, Name, Volume};
@@ -73,7 +73,7 @@ pub struct GateFile {
     // Whether the file was synced since it was found. What is found may be in a cache alone, and a
     // batch that is written behind others than those on the disk would break them.
     synced: bool,
-    ghost in_range: { gate + staged ≤ LONGEST_FILE },
+    ghost in_range: { gate + staged ≤ longest_file },
 }
 
 impl GateFile {
@@ -81,9 +81,9 @@ impl GateFile {
     ghost use Rattle.tt_gate.specs.Calls.{HasCauseOn, RoseWhereOn};
     ghost use Rattle.tt_gate.specs.Calls.{IsReadyOn, IsLaidOn, HasBytesOn, ReadsOn, IsWholeOn, RefusalHoldsOn, KeepsBatchesOn, StagesOn, KeepsStagedOn, StagedLiesOn};
     ghost use Rattle.tt_gate.specs.Calls.{AddsBatchOn, AddsStagedOn, StaysAtMostOn, CrashKeepsBatchesOn, CrashLeavesFormerOn, CrashLeavesOneMoreOn};
-    ghost use Rattle.tt_gate.specs.Calls.{CrashAddsStagedOn, CrashLeavesBatchOn, CrashLeavesFormerOrMoreOn};
-    ghost use Rattle.tt_gate.specs.Limits.{NEW_FILE_LENGTH};
-    ghost use Rattle.tt_gate.specs.GateFile.{IsEnd, IsFresh, IsLaid, IsSynced, StandsStill};
+    ghost use Rattle.tt_gate.specs.Calls.{CrashAddsStagedOn, SyncedLeavesBatchOn, CrashLeavesFormerOrMoreOn};
+    ghost use Rattle.tt_gate.specs.Limits.{new_file_length};
+    ghost use Rattle.tt_gate.specs.GateFile.{IsEnd, IsFresh, IsLaid, IsSynced, MayStage, StandsStill};
     ghost use Rattle.tt_gate.specs.GateFile.{name_of, gate_offset_of, staged_bytes_of};
 
     /// Makes the file, with this header and no batch, and syncs it. A file of this name that is
@@ -104,7 +104,7 @@ impl GateFile {
         ensures synced { IfOk result (λ file. IsSynced file) }
 
         // Where it fails, a crash leaves no more than a new file has, if it couldn't leave more before.
-        ensures short { StaysAtMostOn V.Volume NEW_FILE_LENGTH name volume.old volume.new }
+        ensures short { StaysAtMostOn V.Volume new_file_length name volume.old volume.new }
         ensures others { ChangesOnly V.Volume name volume.old volume.new }
         ensures cause { HasCauseOn V.Volume volume.old volume.new result }
     {
@@ -147,7 +147,7 @@ impl GateFile {
     /// answer is `Closed`. It isn't looked at: no call of a volume is made. Of what the file has
     /// nothing needs to be on the disk yet: the first `stage` syncs it.
     pub fn at_end(name: Name, gate: u64) -> GateFile
-        requires range { gate ≤ LONGEST_FILE }
+        requires range { gate ≤ longest_file }
         // Where it lies there, the file is whole, and stands as the value says.
         ensures laid { (now : Name → Option (List ℕ)) → IsEnd (now name) gate → IsLaid result now }
         ensures fresh { IsFresh name result }
@@ -224,12 +224,11 @@ impl GateFile {
 
         // After a failure, what was staged before still is, and the body too or not.
         ensures gate { OnErr result (gate_offset_of self.new ≡ gate_offset_of self.old) }
-        ensures still { OnErr result ((staged_bytes_of self.new ≡ staged_bytes_of self.old)
-            ⊎ (staged_bytes_of self.new ≡ staged_bytes_of self.old + length body.now)) }
+        ensures still { OnErr result (MayStage self.old body.now self.new) }
 
         // A value that says after a failure that its file was synced says so rightly.
-        ensures truth { OnErr result (IsSynced self.new
-            → CrashLeavesBatchOn V.Volume self.old body.now volume.old volume.new) }
+        ensures truth { OnErr result
+            (SyncedLeavesBatchOn V.Volume self.old volume.old body.now self.new volume.new) }
         ensures crash { CrashLeavesFormerOrMoreOn V.Volume self.old body.now volume.old volume.new }
         ensures others { ChangesOnly V.Volume (name_of self.old) volume.old volume.new }
         ensures cause { HasCauseOn V.Volume volume.old volume.new result }
@@ -244,9 +243,7 @@ impl GateFile {
         ensures ready { IsReadyOn V.Volume self.new volume.new }
         ensures done { OnOk result (IsSynced self.new) }
         ensures unchanged { OnErr result (self.new ≡ self.old) }
-        ensures same { (name_of self.new ≡ name_of self.old)
-            × (gate_offset_of self.new ≡ gate_offset_of self.old)
-            × (staged_bytes_of self.new ≡ staged_bytes_of self.old) }
+        ensures same { StandsStill self.old self.new }
 
         // A file that was synced since it was found isn't synced again.
         ensures quiet { IsSynced self.old → volume.new ≡ volume.old }

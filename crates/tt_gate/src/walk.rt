@@ -6,7 +6,7 @@ ghost use Rattle.tt_disk.specs.Volume.{size_of};
 ghost use Rattle.tt_gate.specs.Gate.{gated};
 ghost use Rattle.tt_gate.specs.Gate.{parsed_gate, gate_in, EndsWithin};
 ghost use Rattle.tt_gate.specs.Calls.{HasHeaderOn, RefusalHoldsOn, IsEndOn, GateSaysOn, IsLongOn, WalkRefusedOn};
-ghost use Rattle.tt_gate.specs.Limits.{HEADER_LENGTH, LONGEST_FILE};
+ghost use Rattle.tt_gate.specs.Limits.{header_length, longest_file};
 
 use crate::{Gate, GateRefusal};
 use tt_disk::{Name, Volume};
@@ -66,7 +66,7 @@ pub(crate) fn last_gate<V: Volume>(volume: &mut V, name: Name) -> Result<u64, Ga
     requires { IsLongOn V.Volume name volume.old }
     ensures end { IfOk result (λ end. IsEndOn V.Volume name volume.old end) }
     ensures refused { IfErr result (λ e. WalkRefusedOn V.Volume name volume.old e) }
-    ensures bound { IfOk result (λ end. end < LONGEST_FILE) }
+    ensures bound { IfOk result (λ end. end < longest_file) }
     ensures keeps { KeepsFiles V.Volume volume.old volume.new }
     ensures cause { RoseWhereOn V.Volume volume.old volume.new (IsErrOf result GateRefusal.Failed) }
 {

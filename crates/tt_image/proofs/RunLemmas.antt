@@ -6,7 +6,7 @@ use Rattle.std.proofs.lemmas.List.Elements.{All-take, All-drop}
 use Rattle.tt_disk.specs.Volume.{overwritten, size_of, written}
 use Rattle.tt_disk.specs.Laws.{end_written}
 use Rattle.tt_cells.specs.declared.PageCopy.{PageCopy}
-use Rattle.tt_cells.specs.Limits.{PAGE_BYTES}
+use Rattle.tt_cells.specs.Limits.{page_size}
 use Rattle.tt_cells.specs.Copies.{AreWhole, joined, pages_of}
 use Rattle.tt_image.specs.Head.{page_start}
 use Rattle.tt_image.specs.Laws.{size_behind}
@@ -39,7 +39,7 @@ run_of_one copies from less =
 
 pub run_of_whole : (copies : List PageCopy) (from n : ℕ) → AreWhole copies → AreWhole (take n (drop from copies))
 run_of_whole copies from n whole =
-    let P : PageCopy → Type 0 = λ copy. length copy.bytes ≡ PAGE_BYTES in
+    let P : PageCopy → Type 0 = λ copy. length copy.bytes ≡ page_size in
     All-take P n (drop from copies) (All-drop P from copies whole)
 
 -- ---- one write of a run is the writes of its pages
@@ -66,7 +66,7 @@ written_twice at next a b (Some f) is le = ap (λ (k : ℕ). Some (overwritten k
 pub run_written : (page : ℕ) (run : List PageCopy) (file : Option (List ℕ)) → AreWhole run → AreFrom page run → page_start page ≤ size_of file → written (page_start page) (joined run) file ≡ with_pages run file
 run_written page [] file whole are le = written_nothing (page_start page) file
 run_written page (copy ∷ run) file whole are le =
-    let long : length copy.bytes ≡ PAGE_BYTES = whole 0 copy (omega arith) in
+    let long : length copy.bytes ≡ page_size = whole 0 copy (omega arith) in
     let others : AreWhole run = λ k d less. whole (suc k) d (omega (arith, less)) in
     let at = page_start page in
     let next : page_start (page + 1) ≡ at + length copy.bytes = omega (arith, long) in
@@ -85,7 +85,7 @@ with_pages-append (copy ∷ a) b file = with_pages-append a b (written (page_sta
 begin_behind : (a b : List PageCopy) (file : Option (List ℕ)) → AreWhole a → BeginWithin (size_of file) (a ++ b) → BeginWithin (size_of (with_pages a file)) b
 begin_behind [] b file whole within = within
 begin_behind (copy ∷ a) b file whole within =
-    let long : length copy.bytes ≡ PAGE_BYTES = whole 0 copy (omega arith) in
+    let long : length copy.bytes ≡ page_size = whole 0 copy (omega arith) in
     let others : AreWhole a = λ k d less. whole (suc k) d (omega (arith, less)) in
     begin_behind a b (written (page_start copy.page) copy.bytes file) others
     (subst (λ (n : ℕ). BeginWithin n (a ++ b)) (sym (size_behind copy.page copy.bytes file long within.0)) within.1)

@@ -1,13 +1,14 @@
 -- The pages of a checkpoint file.
-use Rattle.std.specs.Prelude.{◌+◌, ◌*◌, ◌-◌, ◌^◌, ◌==◌, ◌&&◌, ℕ, Bool, false, if◌then◌else◌, nat_le, List, [], ◌∷◌, ◌++◌, length, take, drop, replicate, slice_index, Option, Some, None, ◌≡◌, ◌≤◌, max}
+use Rattle.std.specs.Prelude.{◌+◌, ◌*◌, ◌-◌, ◌^◌, ◌==◌, ◌&&◌, ℕ, Bool, false, if◌then◌else◌, nat_le, List, [], ◌∷◌, ◌++◌, length, take, drop, replicate, slice_index, Option, Some, None, ◌≡◌, ◌≢◌, ◌≤◌, max}
 use Rattle.tt_value.specs.BigEndian.{number, big_endian}
 use Rattle.tt_disk.specs.Volume.{bytes_of, written}
 use Rattle.tt_cells.specs.Copies.{pages_of}
-use Rattle.tt_cells.specs.Limits.{PAGE_BYTES, PAGES_END}
+use Rattle.tt_cells.specs.Limits.{page_size, pages_end}
 use Rattle.tt_image.specs.declared.head.ImageHead.{ImageHead}
 use Rattle.tt_image.specs.declared.head.HeadRead.{HeadRead}
 use Rattle.tt_image.specs.declared.head.HeadRead.TheVariants.{Absent, Closed, Bad, Whole}
-use Rattle.tt_image.specs.Head.{page_start, head_size}
+use Rattle.tt_image.specs.Head.{page_start}
+use Rattle.tt_image.specs.Limits.{head_size}
 use Rattle.tt_cells.specs.declared.PageCopy.{PageCopy}
 
 -- so many bytes, with zeros behind those that are there
@@ -16,7 +17,7 @@ padded n bytes = take n (bytes ++ replicate n 0)
 
 -- the bytes of a page, with zeros past the file's end
 unfoldable pub page_of : ℕ → Option (List ℕ) → List ℕ
-page_of page file = padded PAGE_BYTES (drop (page_start page) (bytes_of file))
+page_of page file = padded page_size (drop (page_start page) (bytes_of file))
 
 -- the file with these pages written, one after the other
 abbrev pub with_pages : List PageCopy → Option (List ℕ) → Option (List ℕ)
@@ -41,3 +42,7 @@ copied page (copy ∷ copies) bytes = copied page copies (if copy.page == page t
 -- the number of the page of a copy
 abbrev pub page_at : ℕ → List PageCopy → ℕ
 page_at at copies = slice_index (pages_of copies) at
+
+-- a run that begins at a copy, and has so many of them, doesn't go on: the copy behind them isn't of the next page
+abbrev pub EndsRun : ℕ → ℕ → List PageCopy → Type 0
+EndsRun from count copies = page_at (from + count) copies ≢ page_at from copies + count

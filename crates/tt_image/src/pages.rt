@@ -9,10 +9,10 @@ ghost use Rattle.tt_image.specs.Calls.{MakesPagesOn, ReadsPaddedOn, HasPageStart
 ghost use Rattle.tt_disk.specs.Faults.{HasCause};
 ghost use Rattle.tt_disk.specs.Volume.{Keeps, bytes_of, size_of};
 ghost use Rattle.tt_disk.specs.Volume.{OnlyAt};
-ghost use Rattle.tt_cells.specs.Limits.{PAGE_BYTES};
+ghost use Rattle.tt_cells.specs.Limits.{page_size};
 ghost use Rattle.tt_cells.specs.Copies.{AreWhole, pages_of};
 ghost use Rattle.tt_image.specs.Head.{page_start};
-ghost use Rattle.tt_image.specs.Pages.{padded, page_of, page_at};
+ghost use Rattle.tt_image.specs.Pages.{padded, page_of, page_at, EndsRun};
 ghost use Rattle.tt_image.specs.Pages.{AreFrom, BeginWithin, with_pages};
 ghost use Rattle.tt_image.specs.Crash.{LeavesShut};
 
@@ -62,11 +62,11 @@ pub fn read_page<V: Volume>(
     page: u32,
     into: &mut PageCopy,
 ) -> Result<(), Failed>
-    requires bytes { length into.old.bytes ≡ PAGE_BYTES }
+    requires bytes { length into.old.bytes ≡ page_size }
     requires within { HasPageStart V.Volume name page volume.old }
     ensures page { V.told → OnOk result (into.new.bytes ≡ page_of page (V.now volume.old name)) }
     ensures number { OnOk result (into.new.page ≡ page) }
-    ensures bytes { length into.new.bytes ≡ PAGE_BYTES }
+    ensures bytes { length into.new.bytes ≡ page_size }
     ensures keeps { KeepsFiles V.Volume volume.old volume.new }
     ensures cause { HasCause V.exact (V.faults volume.old) (V.faults volume.new) result }
 {
@@ -83,7 +83,7 @@ fn run_length(copies: &PageCopies, from: u32, end: u32) -> u32
     ensures some { 1 ≤ result }
     ensures within { from + result ≤ end }
     ensures run { AreFrom (page_at from copies.now.copies) (take result (drop from copies.now.copies)) }
-    ensures longest { from + result < end → page_at (from + result) copies.now.copies ≢ page_at from copies.now.copies + result }
+    ensures longest { from + result < end → EndsRun from result copies.now.copies }
 {
     let first = copies.page(from);
     for count in 1..end - from {

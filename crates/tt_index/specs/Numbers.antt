@@ -20,6 +20,10 @@ use Rattle.tt_index.specs.Whole.{whole_row}
 abbrev pub as_rows : List (ℤ × List ℕ) → Entries
 as_rows es = map (λ (e : ℤ × List ℕ). (whole_row e.0, e.1)) es
 
+-- entries with these places of a whole number
+abbrev pub with_whole : ℤ → List ℕ → Entries → Entries
+with_whole n places entries = insert_entry row_cmp entries (whole_row n) places
+
 -- Null stands behind all whole numbers.
 abbrev pub with_nulls : List (ℤ × List ℕ) → Option (List ℕ) → Entries
 with_nulls es nulls = as_rows es ++ null_entries nulls

@@ -2,16 +2,16 @@
 //! less room as a key than a row does. In the order of rows Null stands behind all numbers, so its places come last.
 ghost use Rattle.std.specs.Prelude.{◌≡◌, ◌↔◌, [], IsTrue, IfOk, OnOk, OnErr};
 ghost use Rattle.std.specs.Bool.{OnTrue, OnFalse};
-ghost use Rattle.std.specs.BTreeMap.{is_at, insert_entry};
+ghost use Rattle.std.specs.BTreeMap.{is_at};
 ghost use Rattle.std.specs.List.Sorted.{IsStrictlySortedBy};
 ghost use Rattle.std.specs.Map.{keys_of, lookup};
 ghost use Rattle.std.specs.Option.{option_copied};
 ghost use Rattle.std.specs.Ordering.{nat_cmp, int_cmp};
 ghost use Rattle.tt_value.specs.Order.{row_cmp};
 ghost use Rattle.tt_index.specs.Rows.{without, values_at, changed, SameBut};
-ghost use Rattle.tt_index.specs.Indexes.{places_at, places_between, with_place, without_place};
+ghost use Rattle.tt_index.specs.Indexes.{places_at, places_between, with_place, without_place, entries_without};
 ghost use Rattle.tt_index.specs.Nulls.{null_row};
-ghost use Rattle.tt_index.specs.Numbers.{as_rows, with_nulls};
+ghost use Rattle.tt_index.specs.Numbers.{as_rows, with_nulls, with_whole};
 ghost use Rattle.tt_index.specs.Whole.{whole_row};
 
 use crate::nulls::{add_null, copy_nulls, drop_null, is_null, nulls_between};
@@ -66,7 +66,7 @@ impl Numbers {
     }
 
     pub fn drop_entry(&mut self, key: &Row, place: u32)
-        ensures { self.new ≡ changed row_cmp (without_place place) key.now self.old }
+        ensures { self.new ≡ entries_without key.now place self.old }
     {
         match whole(key) {
             Some(n) => drop_whole(&mut self.keys, n, place),
@@ -177,8 +177,7 @@ fn put_copy(
     key: &i64,
     places: &PlaceSet,
 ) -> Result<(), AllocError>
-    ensures { OnOk result
-        (rows.new.entries ≡ insert_entry row_cmp rows.old.entries (whole_row key.now) places.now) }
+    ensures { OnOk result (rows.new.entries ≡ with_whole key.now places.now rows.old.entries) }
 {
     let row = row_of(alloc, *key)?;
     let places = places.copy(alloc)?;

@@ -16,7 +16,7 @@ use Rattle.tt_log.specs.declared.refusal.LogRefusal.TheVariants.{Gap, BadBatch, 
 use Rattle.tt_log.specs.Lengths.{total}
 use Rattle.tt_log.specs.Walk.{Part, before, file_read, bodies_read, log_header}
 use Rattle.tt_log.specs.Limits.{FILE_MOST, LAST_LOG_FILE}
-use Rattle.tt_gate.specs.Limits.{LONGEST_FILE}
+use Rattle.tt_gate.specs.Limits.{longest_file}
 
 -- the end of a file's batches, or its damaged gate
 abbrev pub end_with : ℕ → Option ℕ → Part
@@ -94,4 +94,4 @@ GateSays gate file (Entries body) = gate_in gate file ≡ Ok (Full (length body.
 abbrev pub IsWithin : ℕ → ℕ → ℕ → Batch → Type 0
 IsWithin n gate offset Closed = Unit {0}
 IsWithin n gate offset Switched = n < LAST_LOG_FILE
-IsWithin n gate offset (Entries body) = (0 < length body.items) × (gate + 9 + length body.items < LONGEST_FILE) × (offset + length body.items ≤ FILE_MOST)
+IsWithin n gate offset (Entries body) = (0 < length body.items) × (gate + 9 + length body.items < longest_file) × (offset + length body.items ≤ FILE_MOST)

@@ -3,7 +3,7 @@
 use Rattle.std.specs.Prelude.{◌≡◌, ◌⊎◌, ◌<◌, ◌≤◌, ◌+◌, ℕ, List, IfErr, IsSome, Option, None, Result, Ok, Err}
 use Rattle.tt_disk.specs.declared.volume.Name.TheVariants.{Log as LogFile}
 use Rattle.tt_disk.specs.declared.volume.Volume.{Ghosts}
-use Rattle.tt_gate.specs.Limits.{NEW_FILE_LENGTH}
+use Rattle.tt_gate.specs.Limits.{new_file_length}
 use Rattle.tt_gate.specs.GateFile.{CrashLeavesAtMost}
 use Rattle.tt_value.specs.declared.position.Position.{Position}
 use Rattle.tt_record.specs.declared.entry.Entry.{Entry}
@@ -57,7 +57,7 @@ CrashLeavesEmptyOn g volume = g.told → CrashLeavesLog 0 (Ok nothing) (g.may vo
 
 -- a crash leaves no log but the one without entries, where one before left a first file no longer than a new one
 abbrev pub CrashLeavesNoEntryOn : {V : Type 0} → Ghosts V → V → V → Type 0
-CrashLeavesNoEntryOn g old new = g.told → CrashLeavesAtMost NEW_FILE_LENGTH (g.may old (LogFile 0))
+CrashLeavesNoEntryOn g old new = g.told → CrashLeavesAtMost new_file_length (g.may old (LogFile 0))
     → (files : Files) → MayLeave (g.may new) files → (found : LogContents) → log_of 0 files ≡ Ok found → found ≡ nothing
 
 -- the walk from the log's first file finds what the files from that of a position on were found to be

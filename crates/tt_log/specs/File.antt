@@ -17,7 +17,7 @@ use Rattle.tt_log.specs.Walk.{Files, LogContents, Part, before}
 use Rattle.tt_log.specs.Limits.{FILE_MOST, LAST_LOG_FILE, LOG_FILES_END}
 use Rattle.tt_log.specs.Batch.{rest_read, IsRefused}
 use Rattle.tt_log.specs.Opening.{starts_at, is_place}
-use Rattle.tt_gate.specs.Limits.{FIRST_GATE, LONGEST_FILE}
+use Rattle.tt_gate.specs.Limits.{first_gate_at, longest_file}
 
 -- a file's entries were all read
 pub record IsEnd (part : Part) (end : FileEnd) : Type 0 where
@@ -37,14 +37,14 @@ IsFileEnd wanted part (Err e) = IsRefused e part
 pub record IsReached (wanted n : ℕ) (file : Option (List ℕ)) (at : FileCursor) : Type 0 where
   pub es : List Entry
   pub gate : IsGate file at.gate
-  pub is : rest_read n FIRST_GATE 0 file ≡ before es (rest_read n at.gate at.offset file)
+  pub is : rest_read n first_gate_at 0 file ≡ before es (rest_read n at.gate at.offset file)
   pub long : total es ≡ at.offset
   pub starts : at.starts ≡ starts_at wanted 0 es
 
 abbrev pub HasRead : ℕ → ℕ → Option (List ℕ) → Result BatchStep LogRefusal → Type 0
 HasRead wanted n file (Ok (On at)) = IsReached wanted n file at
-HasRead wanted n file (Ok (Ends end)) = HasEnd wanted (rest_read n FIRST_GATE 0 file) end
-HasRead wanted n file (Err e) = IsRefused e (rest_read n FIRST_GATE 0 file)
+HasRead wanted n file (Ok (Ends end)) = HasEnd wanted (rest_read n first_gate_at 0 file) end
+HasRead wanted n file (Err e) = IsRefused e (rest_read n first_gate_at 0 file)
 
 -- where no Switch ends a file's entries, the closed gate behind them lies where the end says
 abbrev pub Closes : Option (List ℕ) → FileEnd → Type 0
@@ -57,10 +57,10 @@ ClosesIfEnded file (Ends end) = Closes file end
 
 -- the ranges of what was reached
 abbrev pub HasRoom : ℕ → FileCursor → Type 0
-HasRoom gate at = (gate < at.gate) × (at.gate < LONGEST_FILE) × (at.offset ≤ FILE_MOST)
+HasRoom gate at = (gate < at.gate) × (at.gate < longest_file) × (at.offset ≤ FILE_MOST)
 
 abbrev pub IsInRange : ℕ → FileEnd → Type 0
-IsInRange n end = (end.total ≤ FILE_MOST) × (end.switched ≡ true → n < LAST_LOG_FILE) × (end.gate < LONGEST_FILE)
+IsInRange n end = (end.total ≤ FILE_MOST) × (end.switched ≡ true → n < LAST_LOG_FILE) × (end.gate < longest_file)
 
 abbrev pub StepsWithin : ℕ → ℕ → BatchStep → Type 0
 StepsWithin n gate (On at) = HasRoom gate at
@@ -78,7 +78,7 @@ IsFollowed r (Err e) = (e ≡ Failed) ⊎ ((e ≡ NoMemory) ⊎ (r ≡ Err e))
 
 -- the ranges of a log's end, in a file from n on
 abbrev pub IsLogEndInRange : ℕ → LogEnd → Type 0
-IsLogEndInRange n end = (n ≤ end.at.file) × (end.at.file < LOG_FILES_END) × (end.at.offset ≤ FILE_MOST) × (end.gate < LONGEST_FILE)
+IsLogEndInRange n end = (n ≤ end.at.file) × (end.at.file < LOG_FILES_END) × (end.at.offset ≤ FILE_MOST) × (end.gate < longest_file)
 
 -- the closed gate behind a log's end lies where it says
 abbrev pub IsClosedIn : Files → LogEnd → Type 0

@@ -15,7 +15,7 @@ use Rattle.tt_log.specs.Walk.{Files, LogContents, Part, file_read, placed, in_fr
 use Rattle.tt_log.specs.Batch.{rest_read, IsHeaded}
 use Rattle.tt_log.specs.Log.{or_none, entries_in, walk_end}
 use Rattle.tt_log.specs.Limits.{LOG_FILES_END}
-use Rattle.tt_gate.specs.Limits.{FIRST_GATE, LONGEST_FILE}
+use Rattle.tt_gate.specs.Limits.{first_gate_at, longest_file}
 
 -- the entries of a body that was read
 abbrev pub waiting : Scan → List Entry
@@ -41,7 +41,7 @@ ahead scan files = in_front (placed scan.file scan.offset (waiting scan)) (joine
 -- The scan's file stands as its last call found it, and the log can be read from there on.
 pub record IsGoing (scan : Scan) (files : Files) : Type 0 where
   pub headed : scan.begun ≡ true → IsHeaded scan.file (files (LogFile scan.file))
-  pub unread : scan.begun ≡ false → (scan.gate ≡ FIRST_GATE) × (gate_offset scan ≡ 0)
+  pub unread : scan.begun ≡ false → (scan.gate ≡ first_gate_at) × (gate_offset scan ≡ 0)
   pub body : entries_of (drop scan.at scan.body.items) ≡ Some (waiting scan)
   pub long : total (waiting scan) ≡ length scan.body.items - scan.at
   pub whole : IsOk (ahead scan files)
@@ -93,7 +93,7 @@ with_given (Some p) rest = p ∷ rest
 
 -- a bound on how much can still be read
 abbrev pub most_left : Scan → ℕ
-most_left scan = (LOG_FILES_END - scan.file) * LONGEST_FILE + (LONGEST_FILE - scan.gate) + (length scan.body.items - scan.at)
+most_left scan = (LOG_FILES_END - scan.file) * longest_file + (longest_file - scan.gate) + (length scan.body.items - scan.at)
 
 -- less is left to read
 abbrev pub HasLess : Scan → Scan → Type 0

@@ -12,7 +12,7 @@ use Rattle.tt_log.specs.Walk.{Files, Part, before, file_read, placed, log_of}
 use Rattle.tt_log.specs.Batch.{rest_read}
 use Rattle.tt_log.specs.Opening.{HasEntry}
 use Rattle.tt_log.specs.Log.{entries_in}
-use Rattle.tt_gate.specs.Limits.{FIRST_GATE}
+use Rattle.tt_gate.specs.Limits.{first_gate_at}
 
 -- what had taken some entries has taken now these behind them
 abbrev pub Visits : (List (Position × Entry) → Type 0) → (List (Position × Entry) → Type 0) → List (Position × Entry) → Type 0
@@ -41,7 +41,7 @@ VisitsBatch n old new at file (Err e) = Unit {0}
 
 -- the first gate of a file
 abbrev pub at_first : FileCursor
-at_first = record { gate = FIRST_GATE; offset = 0; starts = false }
+at_first = record { gate = first_gate_at; offset = 0; starts = false }
 
 -- what had taken the entries of the first file has taken now those of all files
 abbrev pub VisitsLog : ℕ → (List (Position × Entry) → Type 0) → (List (Position × Entry) → Type 0) → Files → Type 0

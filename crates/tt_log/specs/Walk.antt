@@ -17,7 +17,7 @@ use Rattle.tt_log.specs.Lengths.{total}
 use Rattle.tt_log.specs.Limits.{FILE_MOST, LAST_LOG_FILE, LOG_FILES_END}
 use Rattle.tt_log.specs.declared.refusal.LogRefusal.{LogRefusal}
 use Rattle.tt_log.specs.declared.refusal.LogRefusal.TheVariants.{Gap, BadBatch}
-use Rattle.tt_gate.specs.Limits.{FIRST_GATE, HEADER_LENGTH}
+use Rattle.tt_gate.specs.Limits.{first_gate_at, header_length}
 
 -- the files by name, as they read or as a crash may leave them
 abbrev pub Files : Type 0
@@ -95,8 +95,8 @@ same_bytes (a ∷ as') [] = false
 same_bytes (a ∷ as') (b ∷ bs) = (a == b) && same_bytes as' bs
 
 abbrev pub part_of : ℕ → Option (List ℕ) → Result (List ℕ × List (List ℕ)) GateRefusal → Part
-part_of n file (Ok found) = if same_bytes found.0 (log_header n) then bodies_read n FIRST_GATE 0 found.1 (Ok ([], false)) else Err (Gap n)
-part_of n file (Err (GateBad at)) = if same_bytes (take HEADER_LENGTH (bytes_of file)) (log_header n) then bodies_read n FIRST_GATE 0 (whole_bodies file) (Err (BadBatch n at)) else Err (Gap n)
+part_of n file (Ok found) = if same_bytes found.0 (log_header n) then bodies_read n first_gate_at 0 found.1 (Ok ([], false)) else Err (Gap n)
+part_of n file (Err (GateBad at)) = if same_bytes (take header_length (bytes_of file)) (log_header n) then bodies_read n first_gate_at 0 (whole_bodies file) (Err (BadBatch n at)) else Err (Gap n)
 part_of n file (Err Absent) = Err (Gap n)
 part_of n file (Err BadHeader) = Err (Gap n)
 part_of n file (Err GateFailed) = Err (Gap n)

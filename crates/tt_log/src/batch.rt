@@ -10,7 +10,7 @@ ghost use Rattle.tt_gate.specs.Gate.{gate_in, EndsWithin};
 ghost use Rattle.tt_gate.specs.declared.gate.Gate.TheVariants.{Full};
 ghost use Rattle.tt_log.specs.Batch.{IsHeaded, IsNotHeaded, IsGateAt, IsAfterSwitch, IsBatch, IsFull, IsWithin, GateSays, refusal_of};
 ghost use Rattle.tt_log.specs.declared.refusal.LogRefusal.TheVariants.{Failed};
-ghost use Rattle.tt_gate.specs.Limits.{LONGEST_FILE};
+ghost use Rattle.tt_gate.specs.Limits.{longest_file};
 
 use crate::body::{Body, body_of};
 use crate::header::header;
@@ -120,7 +120,7 @@ fn classify_batch<V: Volume>(
 ) -> Result<Batch, LogRefusal>
     requires headed { OfFile V.Volume number volume.old (λ file. IsHeaded number file) }
     requires gate { OfFile V.Volume number volume.old (λ file. IsFull gate body.items file) }
-    requires inside { gate + 9 + length body.items < LONGEST_FILE }
+    requires inside { gate + 9 + length body.items < longest_file }
     requires some { 0 < length body.items }
     ensures exact { OfFile V.Volume number volume.old (λ file. IsBatch number gate offset file result) }
     ensures gate { OfFile V.Volume number volume.old (λ file. IfOk result (GateSays gate file)) }
@@ -158,7 +158,7 @@ fn read_full<V: Volume>(
     requires headed { OfFile V.Volume number volume.old (λ file. IsHeaded number file) }
     requires gate { 0 < gate }
     requires says { OfFile V.Volume number volume.old (λ file. gate_in gate file ≡ Ok (Full count)) }
-    requires inside { gate + 9 + count < LONGEST_FILE }
+    requires inside { gate + 9 + count < longest_file }
     requires some { 0 < count }
     ensures exact { OfFile V.Volume number volume.old (λ file. IsBatch number gate offset file result) }
     ensures gate { OfFile V.Volume number volume.old (λ file. IfOk result (GateSays gate file)) }

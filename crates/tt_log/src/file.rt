@@ -15,7 +15,7 @@ ghost use Rattle.tt_log.specs.Limits.{FILE_MOST};
 ghost use Rattle.tt_log.specs.Visitor.{Visits, VisitsBatch, VisitsPart};
 ghost use Rattle.tt_log.specs.File.{IsFileEnd, IsReached, IsInRange, HasRead, StepsWithin, Closes, ClosesIfEnded};
 ghost use Rattle.tt_log.specs.declared.refusal.LogRefusal.TheVariants.{Failed};
-ghost use Rattle.tt_gate.specs.Limits.{FIRST_GATE, LONGEST_FILE};
+ghost use Rattle.tt_gate.specs.Limits.{first_gate_at, longest_file};
 
 use crate::batch::{Batch, check_header, read_batch};
 use crate::entry_offsets::body_starts;
@@ -61,7 +61,7 @@ fn deliver_batch<T: EntryVisitor>(
     body: &[u8],
     visitor: &mut T,
 ) -> Result<FileCursor, LogRefusal>
-    requires inside { at.gate + 9 + length body.now < LONGEST_FILE }
+    requires inside { at.gate + 9 + length body.now < longest_file }
     requires room { at.offset + length body.now ≤ FILE_MOST }
     ensures gate { IfOk result (λ next. next.gate ≡ at.gate + 9 + length body.now) }
     ensures offset { IfOk result (λ next. next.offset ≡ at.offset + length body.now) }
@@ -108,7 +108,7 @@ fn read_next_batch<V: Volume, T: EntryVisitor>(
     visitor: &mut T,
 ) -> Result<BatchStep, LogRefusal>
     requires headed { OfFile V.Volume number volume.old (λ file. IsHeaded number file) }
-    requires gate { (0 < at.gate) × (at.gate < LONGEST_FILE) }
+    requires gate { (0 < at.gate) × (at.gate < longest_file) }
     requires reached { OfFile V.Volume number volume.old (λ file. IsReached wanted number file at) }
     requires room { at.offset ≤ FILE_MOST }
     ensures exact { OfFile V.Volume number volume.old (λ file. HasRead wanted number file result) }
@@ -141,9 +141,9 @@ fn read_batches<V: Volume, T: EntryVisitor>(
     visitor: &mut T,
 ) -> Result<FileEnd, LogRefusal>
     requires headed { OfFile V.Volume number volume.old (λ file. IsHeaded number file) }
-    ensures exact { OfFile V.Volume number volume.old (λ file. IsFileEnd wanted (rest_read number FIRST_GATE 0 file) result) }
+    ensures exact { OfFile V.Volume number volume.old (λ file. IsFileEnd wanted (rest_read number first_gate_at 0 file) result) }
     ensures given { OfFile V.Volume number volume.old (λ file. OnOk result
-        (VisitsPart number (T.visited visitor.old) (T.visited visitor.new) (rest_read number FIRST_GATE 0 file))) }
+        (VisitsPart number (T.visited visitor.old) (T.visited visitor.new) (rest_read number first_gate_at 0 file))) }
     ensures closed { OfFile V.Volume number volume.old (λ file. IfOk result (Closes file)) }
     ensures within { IfOk result (λ end. IsInRange number end) }
     ensures keeps { KeepsFiles V.Volume volume.old volume.new }

@@ -7,7 +7,7 @@ ghost use Rattle.tt_record.specs.Entry.{IsEntry};
 ghost use Rattle.tt_log.specs.Walk.{Files, is_from, in_front};
 ghost use Rattle.tt_log.specs.Limits.{FILE_MOST, LAST_LOG_FILE, LOG_FILES_END};
 ghost use Rattle.tt_log.specs.declared.refusal.LogRefusal.TheVariants.{Failed, NoMemory};
-ghost use Rattle.tt_gate.specs.Limits.{FIRST_GATE, LONGEST_FILE};
+ghost use Rattle.tt_gate.specs.Limits.{first_gate_at, longest_file};
 
 use crate::batch::{Batch, check_header, read_batch};
 use crate::body::read_entry_at;
@@ -33,7 +33,7 @@ pub struct Scan {
     body: Vec<u8>,
     at: usize,
     ghost inside: { at ≤ length body.items },
-    ghost gates: { (FIRST_GATE ≤ gate) × (gate < LONGEST_FILE) },
+    ghost gates: { (first_gate_at ≤ gate) × (gate < longest_file) },
     ghost offsets: { offset + (length body.items - at) ≤ FILE_MOST },
 }
 
@@ -66,7 +66,7 @@ impl Scan {
         ensures from { result.from ≡ from }
         ensures file { result.file ≡ from.file }
         ensures begun { result.begun ≡ false }
-        ensures gate { result.gate ≡ FIRST_GATE }
+        ensures gate { result.gate ≡ first_gate_at }
         ensures offset { result.offset ≡ 0 }
         ensures body { result.body.items ≡ [] }
         ensures at { result.at ≡ 0 }
@@ -110,7 +110,7 @@ impl Scan {
         requires file { self.old.file < LAST_LOG_FILE }
         ensures file { self.new.file ≡ self.old.file + 1 }
         ensures begun { self.new.begun ≡ false }
-        ensures gate { self.new.gate ≡ FIRST_GATE }
+        ensures gate { self.new.gate ≡ first_gate_at }
         ensures offset { self.new.offset ≡ 0 }
         ensures at { self.new.at ≡ length self.new.body.items }
         ensures body { self.new.body ≡ self.old.body }
@@ -126,7 +126,7 @@ impl Scan {
     // Goes on in the body of the batch behind the gate.
     fn fill(&mut self, body: Vec<u8>)
         requires none { IsUsedUp self.old }
-        requires inside { self.old.gate + 9 + length body.items < LONGEST_FILE }
+        requires inside { self.old.gate + 9 + length body.items < longest_file }
         requires room { self.old.offset + length body.items ≤ FILE_MOST }
         ensures file { self.new.file ≡ self.old.file }
         ensures begun { self.new.begun ≡ self.old.begun }

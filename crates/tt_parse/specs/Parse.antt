@@ -5,7 +5,8 @@ use Rattle.tt_parse.specs.declared.tokens.Class.TheVariants.{Blank}
 use Rattle.tt_parse.specs.declared.command.Command.{Command}
 use Rattle.tt_parse.specs.declared.command.Command.TheVariants as c
 use Rattle.tt_parse.specs.Grammar.{IsOff}
-use Rattle.tt_parse.specs.Reader.{Read}
+use Rattle.tt_parse.specs.Reader.{Read, next_is}
+use Rattle.tt_parse.specs.Reading as read
 use Rattle.tt_parse.specs.declared.fault.ParseError.{ParseError}
 use Rattle.tt_parse.specs.declared.fault.ParseError.TheVariants as error
 use Rattle.tt_value.specs.declared.refusal.Refusal.{Refusal}
@@ -68,6 +69,15 @@ abbrev pub IsSession : List Token → ℕ → Type 0
 IsSession ts session =
     ((front : List Token) × (behind : List Token) × (ts ≡ front ++ behind) × g.prefix front session)
     ⊎ ((session ≡ 1) × ¬ ((front : List Token) × (behind : List Token) × (n : ℕ) × (ts ≡ front ++ behind) × g.prefix front n))
+
+-- the session is that of the line's prefix, and session 1 where it has none
+abbrev pub IsSessionOf : List ℕ → ℕ → Type 0
+IsSessionOf line session = IsSession (tokens_of line) session
+
+-- a line in which a command of one word stands behind the prefix is read without memory
+abbrev pub TakesNoMemoryBehind : List ℕ → Result Command Refusal → Type 0
+TakesNoMemoryBehind line what =
+    (n : ℕ) → (mid : List Token) → read.session (tokens_of line) ≡ Ok (n, mid) → next_is read.is_bare mid ≡ true → what ≢ Err NoMemory
 
 -- the commands that are one word
 unfoldable pub is_bare : Command → Bool

@@ -475,6 +475,12 @@ on_table w make = do
   bookmark ← name
   read_nothing (make table bookmark)
 
+abbrev pub create_bookmark : R Command
+create_bookmark = on_bookmark (codes "ttxlabookmarkcreate") commands.XlaCreate
+
+abbrev pub delete_bookmark : R Command
+delete_bookmark = on_bookmark (codes "ttxlabookmarkdelete") commands.XlaDelete
+
 unfoldable pub next_update : R Command
 next_update = do
   word (codes "ttxlanextupdate")

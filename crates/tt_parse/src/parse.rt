@@ -1,9 +1,9 @@
 //! Reads a line. A blank line or a comment is skipped; any other gives a session, and its command or the offset of the first
 //! token with which no line of the grammar goes on.
 
-ghost use Rattle.std.specs.Prelude.{◌≡◌, ◌≢◌, ◌≤◌, ◌↔◌, ℕ, List, length, true, IfOk, ◌==◌, ◌&&◌, IsUtf8, Ok, Err};
+ghost use Rattle.std.specs.Prelude.{◌≡◌, ◌≢◌, ◌≤◌, ◌↔◌, length, true, IfOk, ◌==◌, ◌&&◌, IsUtf8, Err};
 ghost use Rattle.tt_parse.specs.Reader.{next_is};
-ghost use Rattle.tt_parse.specs.Tokens.{Token, tokens_of};
+ghost use Rattle.tt_parse.specs.Tokens.{tokens_of};
 ghost use Rattle.tt_parse.specs.Cursor as cursor;
 ghost use Rattle.tt_parse.specs.Cursor.{offset_in};
 ghost use Rattle.tt_parse.specs.Symbols.{session_most};
@@ -35,7 +35,7 @@ pub fn parse_line(alloc: Global, line: &[u8]) -> LineKind
     // A line off the grammar is refused at its offset, unless memory is wanting.
     ensures off { parsing.IfRun result (λ session what. IsUtf8 line.now → parsing.RefusesAll line.now what) }
     // The session of a line that is UTF-8 is that of its prefix, also off the grammar, and else session 1.
-    ensures session { parsing.IfRun result (λ session what. IsUtf8 line.now → parsing.IsSession (tokens_of line.now) session) }
+    ensures session { parsing.IfRun result (λ session what. IsUtf8 line.now → parsing.IsSessionOf line.now session) }
     ensures within { parsing.IfRun result (λ session what. (1 ≤ session) × (session ≤ session_most)) }
     // Each command is one that a line gives.
     ensures given { parsing.IfRun result (λ session what. IfOk what parsing.IsGiven) }
@@ -93,7 +93,7 @@ fn parse_text(alloc: Global, line: &[u8]) -> Parsed
     ensures says { parsing.Says line.now result.session result.what }
     ensures only { parsing.ReadsAll line.now result.session result.what }
     ensures off { parsing.RefusesAll line.now result.what }
-    ensures session { parsing.IsSession (tokens_of line.now) result.session }
+    ensures session { parsing.IsSessionOf line.now result.session }
     ensures within { (1 ≤ result.session) × (result.session ≤ session_most) }
     ensures given { IfOk result.what parsing.IsGiven }
     ensures without_memory { parsing.TakesNoMemory line.now result.what }
@@ -107,8 +107,7 @@ fn parse_tokens(alloc: Global, line: &[u8]) -> Parsed
     ensures what { parsing.Ends (parsing.commands (read.line (tokens_of line.now))) (length line.now) result.what }
     ensures session { result.session ≡ parsing.session_of (read.session (tokens_of line.now)) }
     ensures within { (1 ≤ result.session) × (result.session ≤ session_most) }
-    ensures without_memory { (n : ℕ) → (mid : List Token) → read.session (tokens_of line.now) ≡ Ok (n, mid) → next_is read.is_bare mid ≡ true →
-        result.what ≢ Err Refusal.NoMemory }
+    ensures without_memory { parsing.TakesNoMemoryBehind line.now result.what }
 {
     let mut tokens = Cursor::new(line);
     match session(&mut tokens) {

@@ -1,7 +1,7 @@
 //! Writes commands that make tables and indexes.
 
 ghost use Rattle.std.specs.Prelude.{◌≡◌, codes, OnOk};
-ghost use Rattle.tt_parse.specs.Printer.{put_all};
+ghost use Rattle.tt_parse.specs.Printer.{Prints, put_all};
 ghost use Rattle.tt_parse.specs.Spelling as spell;
 ghost use Rattle.tt_parse.specs.declared.command.Command.TheVariants as commands;
 
@@ -19,7 +19,7 @@ pub fn create_table(
     cols: &List<ColumnText>,
     key: &List<Ident>,
 ) -> Result<(), AllocError>
-    ensures { OnOk result (out.new ≡ put_all out.old (spell.pieces (commands.CreateTable name.now cols.now key.now))) }
+    ensures { OnOk result (Prints (commands.CreateTable name.now cols.now key.now) out.old out.new) }
 {
     out.word(b"create")?;
     out.word(b"table")?;
@@ -40,7 +40,7 @@ pub fn create_index(
     columns: &List<Ident>,
     is_unique: bool,
 ) -> Result<(), AllocError>
-    ensures { OnOk result (out.new ≡ put_all out.old (spell.pieces (commands.CreateIndex name.now table.now columns.now is_unique))) }
+    ensures { OnOk result (Prints (commands.CreateIndex name.now table.now columns.now is_unique) out.old out.new) }
 {
     out.word(b"create")?;
     unique(out, is_unique)?;

@@ -1,7 +1,7 @@
 //! Writes selects.
 
 ghost use Rattle.std.specs.Prelude.{◌≡◌, OnOk};
-ghost use Rattle.tt_parse.specs.Printer.{put_all};
+ghost use Rattle.tt_parse.specs.Printer.{Prints, put_all};
 ghost use Rattle.tt_parse.specs.Spelling as spell;
 ghost use Rattle.tt_parse.specs.declared.command.Command.TheVariants as commands;
 
@@ -22,7 +22,7 @@ pub fn select(
     cond: &Option<Cond>,
     by: &List<OrderItem>,
 ) -> Result<(), AllocError>
-    ensures { OnOk result (out.new ≡ put_all out.old (spell.pieces (commands.Select table.now taken.now cond.now by.now))) }
+    ensures { OnOk result (Prints (commands.Select table.now taken.now cond.now by.now) out.old out.new) }
 {
     out.word(b"select")?;
     items(out, taken)?;

@@ -20,7 +20,8 @@ pub fn first(z: &[u8]) -> (Kind, usize)
     ensures value { result ≡ spec.first z.now }
     ensures within { (1 ≤ result.1) × (result.1 ≤ length z.now + 1) }
     ensures kind { (result.0 ≢ Kind.End) × (result.0 ≢ Kind.Unclosed) }
-    ensures text { result.0 ≡ Kind.Text → (slice_index z.now 0 ≡ 39) × (result.1 ≡ 1 + spec.text_rest false (drop 1 z.now)) }
+    ensures quote { result.0 ≡ Kind.Text → slice_index z.now 0 ≡ 39 }
+    ensures text { result.0 ≡ Kind.Text → result.1 ≡ 1 + spec.text_rest false (drop 1 z.now) }
 {
     let b = z[0];
     if is_in(Class::Digit, b) {

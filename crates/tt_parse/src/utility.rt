@@ -76,7 +76,7 @@ fn backup_kind_of(tokens: &Cursor<'_>) -> Option<BackupKind>
 
 #[tactic(auto, unfolding(crate::specs::Reading::on_bookmark))]
 fn create_bookmark(alloc: Global, tokens: &mut Cursor<'_>) -> Result<Command, ParseError>
-    ensures { Reads (read.on_bookmark (codes "ttxlabookmarkcreate") Command.XlaCreate tokens.old) result tokens.new }
+    ensures { Reads (read.create_bookmark tokens.old) result tokens.new }
 {
     tokens.word(b"ttxlabookmarkcreate")?;
     let bookmark = name(alloc, tokens)?;
@@ -85,7 +85,7 @@ fn create_bookmark(alloc: Global, tokens: &mut Cursor<'_>) -> Result<Command, Pa
 
 #[tactic(auto, unfolding(crate::specs::Reading::on_bookmark))]
 fn delete_bookmark(alloc: Global, tokens: &mut Cursor<'_>) -> Result<Command, ParseError>
-    ensures { Reads (read.on_bookmark (codes "ttxlabookmarkdelete") Command.XlaDelete tokens.old) result tokens.new }
+    ensures { Reads (read.delete_bookmark tokens.old) result tokens.new }
 {
     tokens.word(b"ttxlabookmarkdelete")?;
     let bookmark = name(alloc, tokens)?;

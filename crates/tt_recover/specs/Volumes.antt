@@ -17,7 +17,7 @@ use Rattle.tt_log.specs.declared.refusal.LogRefusal.TheVariants.{Gap, BadBatch a
 use Rattle.tt_log.specs.Opening.{started}
 use Rattle.tt_log.specs.Walk.{Files, Part, LogContents as Read, file_read, no_switch, placed}
 use Rattle.tt_log.specs.Limits.{FILE_MOST}
-use Rattle.tt_cells.specs.Limits.{CELL_BYTES}
+use Rattle.tt_cells.specs.Limits.{cell_size}
 use Rattle.tt_cells.specs.ReadingCells.{cell_in, or_empty}
 use Rattle.tt_image.specs.declared.head.ImageHead.{ImageHead}
 use Rattle.tt_image.specs.declared.head.HeadRead.{HeadRead}
@@ -95,7 +95,7 @@ or_refused (Err e) = Err (refused e)
 
 -- the cell that the image has at a place; none where its bytes are no cell
 abbrev pub cell_read : Option (List ℕ) → ℕ → Option Cell
-cell_read file place = cell_in (take CELL_BYTES (drop (CELL_BYTES * (place % 32)) (page_of (place / 32) file)))
+cell_read file place = cell_in (take cell_size (drop (cell_size * (place % 32)) (page_of (place / 32) file)))
 
 abbrev pub image_of : ℕ → Option (List ℕ) → Cells
 image_of pages file place = if nat_lt place (32 * pages) then or_empty (cell_read file place) else Empty

@@ -6,6 +6,8 @@ use Rattle.std.specs.declared.cmp.Ordering.TheVariants.{Greater}
 use Rattle.std.specs.Str.{bytes_eq}
 use Rattle.toml.specs.Data.{Data, integer, Members, get_member}
 use Rattle.toml.specs.Parse.{parse_document}
+use Rattle.tt_set.specs.Limits.{off, on, log_file_size_least, log_file_size_most, log_buf_size_least, log_buf_size_most, log_buf_size_default}
+use Rattle.tt_set.specs.Limits.{perm_pages_least, perm_pages_most, perm_pages_default, ckpt_pages_least, ckpt_pages_most, ckpt_pages_default, database_least, database_most}
 use Rattle.tt_set.specs.declared.attribute.Attribute.{Attribute}
 use Rattle.tt_set.specs.declared.settings.Settings.{Settings}
 use Rattle.tt_set.specs.declared.settings.SetRefusal.{SetRefusal}
@@ -18,12 +20,12 @@ attribute least most default = record { least = least; most = most; default = de
 -- the attributes by their names
 abbrev pub attributes : List (List ℕ × Attribute)
 attributes =
-    (codes "DurableCommits", attribute 0 1 0)
-    ∷ (codes "LogFileSize", attribute 8192 67108864 67108864)
-    ∷ (codes "LogBufSize", attribute 4096 1048576 65536)
-    ∷ (codes "PermPages", attribute 1 65536 1024)
-    ∷ (codes "CkptPages", attribute 1 256 8)
-    ∷ (codes "Database", attribute 1 4294967295 1)
+    (codes "DurableCommits", attribute off on off)
+    ∷ (codes "LogFileSize", attribute log_file_size_least log_file_size_most log_file_size_most)
+    ∷ (codes "LogBufSize", attribute log_buf_size_least log_buf_size_most log_buf_size_default)
+    ∷ (codes "PermPages", attribute perm_pages_least perm_pages_most perm_pages_default)
+    ∷ (codes "CkptPages", attribute ckpt_pages_least ckpt_pages_most ckpt_pages_default)
+    ∷ (codes "Database", attribute database_least database_most database_least)
     ∷ []
 
 -- the attribute of a name, where there is one

@@ -6,6 +6,8 @@ use Rattle.std.specs.declared.cmp.Ordering.TheVariants.{Greater}
 use Rattle.std.specs.Str.{bytes_eq}
 use Rattle.toml.specs.Data.{Data, integer, Members, get_member}
 use Rattle.toml.specs.Parse.{parse_document}
+use Rattle.tt_set.specs.Limits.{text_most, on, log_file_size_least, log_file_size_most, log_buf_size_least, log_buf_size_most}
+use Rattle.tt_set.specs.Limits.{perm_pages_least, perm_pages_most, ckpt_pages_least, ckpt_pages_most, database_least, database_most}
 use Rattle.tt_set.specs.declared.attribute.Attribute.{Attribute}
 use Rattle.tt_set.specs.declared.settings.Settings.{Settings}
 use Rattle.tt_set.specs.declared.settings.SetRefusal.{SetRefusal}
@@ -15,7 +17,7 @@ use Rattle.tt_set.specs.Attribute.{is_right, value_of}
 -- the settings that members give
 abbrev pub settings_in : Members → Settings
 settings_in ms = record {
-  durable_commits = value_of ms (codes "DurableCommits") == 1;
+  durable_commits = value_of ms (codes "DurableCommits") == on;
   log_file_size = value_of ms (codes "LogFileSize");
   log_buf_size = value_of ms (codes "LogBufSize");
   perm_pages = value_of ms (codes "PermPages");
@@ -37,7 +39,7 @@ pub record IsFirstWrong (ms : Members) (name : List ℕ) : Type 0 where
 
 -- the text is a TOML document of a size that is read, with these members
 pub record Reads (text : List ℕ) (ms : Members) : Type 0 where
-  pub short : length text ≤ 65536
+  pub short : length text ≤ text_most
   pub utf8 : IsUtf8 text
   pub document : parse_document text ≡ Some ms
 
@@ -63,8 +65,8 @@ Gives (Err NoMemory) said = Unit {0}
 
 -- each number is in its attribute's range
 pub record AreInRange (s : Settings) : Type 0 where
-  pub log_file_size : (8192 ≤ s.log_file_size) × (s.log_file_size ≤ 67108864)
-  pub log_buf_size : (4096 ≤ s.log_buf_size) × (s.log_buf_size ≤ 1048576)
-  pub perm_pages : (1 ≤ s.perm_pages) × (s.perm_pages ≤ 65536)
-  pub ckpt_pages : (1 ≤ s.ckpt_pages) × (s.ckpt_pages ≤ 256)
-  pub database : (1 ≤ s.database) × (s.database ≤ 4294967295)
+  pub log_file_size : (log_file_size_least ≤ s.log_file_size) × (s.log_file_size ≤ log_file_size_most)
+  pub log_buf_size : (log_buf_size_least ≤ s.log_buf_size) × (s.log_buf_size ≤ log_buf_size_most)
+  pub perm_pages : (perm_pages_least ≤ s.perm_pages) × (s.perm_pages ≤ perm_pages_most)
+  pub ckpt_pages : (ckpt_pages_least ≤ s.ckpt_pages) × (s.ckpt_pages ≤ ckpt_pages_most)
+  pub database : (database_least ≤ s.database) × (s.database ≤ database_most)

@@ -1,5 +1,6 @@
-//! The attributes by their names, with their ranges and defaults, and what a document says of each.
-ghost use Rattle.std.specs.Prelude.{◌≡◌, ◌≤◌, IfSome, MatchOption};
+//! The attributes by their names, with their ranges and defaults, and what a document says of each. The ranges and
+//! defaults are those of `specs/Limits.antt`, to which `attribute_of` is proved equal.
+ghost use Rattle.std.specs.Prelude.{◌≡◌, ◌≤◌, IfSome, IfNone};
 ghost use Rattle.toml.specs.View.{view, table_view};
 ghost use Rattle.tt_set.specs.Attribute.{attribute_of, number_of, is_right, number_in};
 ghost use Rattle.tt_set.specs.Settings.{AllRight, IsFirstWrong};
@@ -92,8 +93,8 @@ fn is_right(name: &str, value: &Value) -> bool
 
 /// The first name, in the order of the names' bytes, that isn't an attribute's or whose value isn't right.
 pub(crate) fn first_wrong(table: &Table) -> Option<&str>
-    ensures { MatchOption result (AllRight (table_view table.now))
-        (λ name. IsFirstWrong (table_view table.now) name.now) }
+    ensures right { IfNone result (AllRight (table_view table.now)) }
+    ensures wrong { IfSome result (λ name. IsFirstWrong (table_view table.now) name.now) }
 {
     'names: for (name, value) in table.iter() {
         if !is_right(name.as_str(), value) {

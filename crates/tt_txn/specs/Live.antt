@@ -29,6 +29,22 @@ pub record LiveTransaction : Type 0 where
   pub noted : List Noted
   pub names : List LockName
 
+-- the session of a live transaction
+abbrev pub live_session : LiveTransaction → ℕ
+live_session l = l.session
+
+-- its number
+abbrev pub live_number : LiveTransaction → ℕ
+live_number l = l.number
+
+-- where its first entry stands
+abbrev pub first_position : LiveTransaction → Position
+first_position l = l.first
+
+-- the changes that it noted, the newest first
+abbrev pub changes_of : LiveTransaction → List Noted
+changes_of l = l.noted
+
 abbrev pub has_number : ℕ → LiveTransaction → Bool
 has_number number l = nat_eq l.number number
 

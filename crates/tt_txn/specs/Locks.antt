@@ -79,6 +79,14 @@ same_names es lists s = session_names s es lists
 abbrev pub with_name_of : ℕ → LockName → List (LockName × Held) → List (List (Option ℕ)) → ℕ → List LockName
 with_name_of session name es lists s = if nat_eq session s then session_names session es lists ++ name ∷ [] else session_names s es lists
 
+-- a session has one name more, behind its others, and each other session the names that it had
+abbrev pub AddsName : ℕ → LockName → List (LockName × Held) → List (List (Option ℕ)) → List (LockName × Held) → List (List (Option ℕ)) → Type 0
+AddsName session name es lists new_es new_lists = HaveNames new_es new_lists (with_name_of session name es lists)
+
+-- each session but one has the names that it had
+abbrev pub KeepsOthers : ℕ → List (LockName × Held) → List (List (Option ℕ)) → List (LockName × Held) → List (List (Option ℕ)) → Type 0
+KeepsOthers session es lists new_es new_lists = (s : ℕ) → s ≢ session → session_names s new_es new_lists ≡ session_names s es lists
+
 -- the names without one
 abbrev pub without_name : LockName → List (LockName × Held) → List (List (Option ℕ)) → ℕ → List LockName
 without_name name es lists s = remove_key (same_name name) (session_names s es lists)

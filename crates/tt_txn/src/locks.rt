@@ -2,12 +2,12 @@
 //! in the order taken. A slot has the index of an entry of the map, and the entry tells session and slot. So a name's holder is
 //! found by one look-up, and a session's names are given back one by one, whatever the others hold. Where an entry leaves the
 //! map, the last one takes its index, and its slot is written anew.
-ghost use Rattle.std.specs.Prelude.{◌≡◌, ◌≢◌, ◌<◌, ◌++◌, ◌∷◌, [], ℕ, Bool, true, false, None, length, get_or, nat_eq, if◌then◌else◌, OnOk, OnErr, IsTrue};
+ghost use Rattle.std.specs.Prelude.{◌≡◌, ◌<◌, ◌++◌, ◌∷◌, [], ℕ, Bool, true, false, None, length, get_or, nat_eq, if◌then◌else◌, OnOk, OnErr, IsTrue};
 ghost use Rattle.std.specs.List.{list_any};
 ghost use Rattle.std.specs.Set.{remove_key};
 ghost use Rattle.indexmap.specs.IndexMap.{IsUnique, get};
 ghost use Rattle.tt_txn.specs.Same.{same_name};
-ghost use Rattle.tt_txn.specs.Locks.{names_of, is_session, Holds, names_in, IsTied, IsTiedBut, Moves, HaveNames, same_names, session_names, with_name_of, without_name, without_session};
+ghost use Rattle.tt_txn.specs.Locks.{names_of, is_session, Holds, names_in, IsTied, IsTiedBut, Moves, HaveNames, AddsName, KeepsOthers, same_names, without_name, without_session};
 ghost use Rattle.tt_txn.specs.Slots.{slots_of, slot_at};
 
 use crate::held::Held;
@@ -139,7 +139,7 @@ fn take_in(
     requires free { get same_name names.old name ≡ None }
     ensures tied { IsTied slots.new names.new.entries }
     ensures unique { IsUnique same_name names.new }
-    ensures ok { OnOk result (HaveNames names.new.entries slots.new (with_name_of session name names.old.entries slots.old)) }
+    ensures ok { OnOk result (AddsName session name names.old.entries slots.old names.new.entries slots.new) }
     ensures err { OnErr result (HaveNames names.new.entries slots.new (same_names names.old.entries slots.old)) }
 {
     let owner = &mut slots[session as usize];
@@ -182,7 +182,7 @@ fn release_last(names: &mut IndexMap<LockName, Held>, slots: &mut [Slots], sessi
     requires unique { IsUnique same_name names.old }
     ensures tied { IsTied slots.new names.new.entries }
     ensures unique { IsUnique same_name names.new }
-    ensures others { (s : ℕ) → s ≢ session → session_names s names.new.entries slots.new ≡ session_names s names.old.entries slots.old }
+    ensures others { KeepsOthers session names.old.entries slots.old names.new.entries slots.new }
     ensures fewer { IsTrue result → length (slots_of session slots.new) < length (slots_of session slots.old) }
     ensures none { result ≡ false → slots_of session slots.new ≡ [] }
 {

@@ -1,9 +1,9 @@
 use Rattle.std.proofs.Common.{◌≡◌, ◌+◌, ◌-◌, ◌*◌, ◌++◌, ℕ, List, ap₂, take, drop, arith}
-use Rattle.tt_cells.specs.Limits.{PAGE_BYTES}
+use Rattle.tt_cells.specs.Limits.{page_size}
 use Rattle.tt_cells.proofs.copies.put.Goals as goal
 
 pub returns-clause-bytes : goal.returns-clause-bytes
 returns-clause-bytes c =
-    let start = PAGE_BYTES * c.args.at in
-    let width : (start + PAGE_BYTES) - start ≡ PAGE_BYTES = omega arith in
+    let start = page_size * c.args.at in
+    let width : (start + page_size) - start ≡ page_size = omega arith in
     ap₂ (λ (xs : List ℕ) (k : ℕ). take start c.args.bytes.now ++ (xs ++ drop k (drop start c.args.bytes.now))) c.copy_from_slice.ensures.after width
