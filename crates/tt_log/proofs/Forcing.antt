@@ -4,7 +4,7 @@ use Rattle.std.specs.Prelude.{IsOk}
 use Rattle.std.proofs.lemmas.List.{append-nil}
 use Rattle.tt_disk.specs.declared.volume.Name.{Name}
 use Rattle.tt_disk.specs.declared.volume.Name.TheVariants.{Log as LogFile}
-use Rattle.tt_disk.specs.Volume.{IsSettled, bytes_of, OnlyAt}
+use Rattle.tt_disk.specs.Volume.{IsSettled, bytes_of, OnlyAt, Files, Outcomes, File}
 use Rattle.tt_gate.specs.declared.gate.GateFile.{GateFile}
 use Rattle.tt_gate.specs.Gate.{gated}
 use Rattle.tt_gate.specs.GateFile.{with_batch, staged_in, CrashLeavesFormerOrMore}
@@ -13,13 +13,13 @@ use Rattle.tt_value.specs.declared.position.Position.{Position}
 use Rattle.tt_record.specs.Read.{entries_of}
 use Rattle.tt_log.specs.Lengths.{total}
 use Rattle.tt_log.specs.declared.refusal.LogRefusal.{LogRefusal}
-use Rattle.tt_log.specs.Walk.{Files, LogContents, log_of, with_more, no_switch}
-use Rattle.tt_log.specs.Limits.{FILE_MOST}
+use Rattle.tt_log.specs.Walk.{LogContents, log_of, with_more, no_switch}
+use Rattle.tt_log.specs.Limits.{file_most}
 use Rattle.tt_record.specs.Place.{position}
 use Rattle.tt_log.specs.Log.{IsOpen, CrashLeavesLog, CrashLeavesLogOr, unforced, walk_end}
 use Rattle.tt_log.specs.declared.log.Log.{Log}
 use Rattle.tt_record.specs.BodyLaws.{body_is_read}
-use Rattle.tt_log.proofs.Crash.{Outcomes, Around, more_in, left_same, left_more, all_left}
+use Rattle.tt_log.proofs.Crash.{Around, more_in, left_same, left_more, all_left}
 
 abbrev Standing : Type 0
 Standing = Result LogContents LogRefusal
@@ -55,7 +55,7 @@ unfolding entries_of
 no_entries = refl
 
 -- nothing is staged, so the batch is the body alone
-pub body_alone : (file : GateFile) (bytes : Option (List ℕ)) (body : List ℕ) → file.staged ≡ 0 → staged_in file bytes ++ body ≡ body
+pub body_alone : (file : GateFile) (bytes : File) (body : List ℕ) → file.staged ≡ 0 → staged_in file bytes ++ body ≡ body
 body_alone file bytes body none = ap (λ (k : ℕ). take k (drop (9 + file.gate) (bytes_of bytes)) ++ body) none
 
 -- one call that appends a batch
@@ -64,7 +64,7 @@ pub record Batch (m base : ℕ) (name : Name) (given body : List ℕ) (fs : List
   pub alone : given ≡ body
   pub entries : entries_of body ≡ Some fs
   pub plain : no_switch fs ≡ true
-  pub room : base + total fs ≤ FILE_MOST
+  pub room : base + total fs ≤ file_most
   pub only : OnlyAt name old new may may'
   pub crash : CrashLeavesFormerOrMore (may name) (gated (old name)) given (may' name)
 

@@ -7,7 +7,7 @@ use Rattle.tt_record.specs.declared.entry.Entry.{Entry}
 use Rattle.tt_log.specs.declared.log.Log.{Log}
 use Rattle.tt_log.specs.declared.scan.Scan.{Scan}
 use Rattle.tt_log.specs.declared.refusal.LogRefusal.{LogRefusal}
-use Rattle.tt_log.specs.Walk.{Files, LogContents, Part, placed, in_front, log_of, is_from, is_since, since}
+use Rattle.tt_log.specs.Walk.{LogContents, Part, placed, in_front, log_of, is_from, is_since, since}
 use Rattle.tt_log.specs.Log.{IsWhole, entries_in, walk_end, forced_of}
 use Rattle.tt_log.specs.Scan.{waiting, gate_offset, part_left, joined_from, ahead, IsScanning, from_here, left, given}
 use Rattle.tt_log.proofs.Following.{Standing}
@@ -15,6 +15,7 @@ use Rattle.tt_log.proofs.Forcing.{is_found}
 use Rattle.tt_log.proofs.Purge.{log_later, since_forced}
 use Rattle.tt_log.proofs.Walks.{last_of}
 use Rattle.tt_log.proofs.Scanning.{start_ahead, switched_going}
+use Rattle.tt_disk.specs.Volume.{Files}
 
 front_entries : (p : Position × Entry) (r s : Standing) → IsOk r → r ≡ in_front (p ∷ []) s → entries_in r ≡ p ∷ entries_in s
 front_entries p r (Ok found) whole is = ap entries_in is

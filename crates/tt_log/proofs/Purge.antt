@@ -4,12 +4,12 @@ use Rattle.std.proofs.lemmas.Bool.Decides.{nat_tests}
 use Rattle.tt_disk.specs.declared.volume.Name.{Name}
 use Rattle.tt_disk.specs.declared.volume.Name.TheVariants.{Log as LogFile}
 use Rattle.tt_log.specs.declared.refusal.LogRefusal.{LogRefusal}
-use Rattle.tt_log.specs.Walk.{Files, LogContents, file_read, on_part, walk, log_of, since, is_since, no_switch}
+use Rattle.tt_log.specs.Walk.{LogContents, file_read, on_part, walk, log_of, since, is_since, no_switch}
 use Rattle.tt_record.specs.Place.{position}
 use Rattle.tt_log.specs.Log.{MayLeave, CrashLeavesLog, IsOpen, is_between, OnlyBetween, walk_end, entries_in, or_none, unforced}
-use Rattle.tt_log.proofs.Crash.{Outcomes, same_in}
+use Rattle.tt_log.proofs.Crash.{same_in}
 use Rattle.std.specs.Prelude.{IsOk}
-use Rattle.tt_disk.specs.Volume.{size_of}
+use Rattle.tt_disk.specs.Volume.{size_of, Files, Outcomes}
 use Rattle.tt_gate.specs.declared.gate.GateFile.{GateFile}
 use Rattle.tt_gate.specs.Gate.{gated, end_of as gate_end}
 use Rattle.tt_gate.specs.GateFile.{IsReady, bodies_of}

@@ -4,7 +4,7 @@ use Rattle.std.specs.Prelude.{IsOk}
 use Rattle.std.proofs.lemmas.Bool.{eq-eqb, lt-ltb}
 use Rattle.tt_disk.specs.declared.volume.Name.{Name}
 use Rattle.tt_disk.specs.declared.volume.Name.TheVariants.{Log as LogFile}
-use Rattle.tt_disk.specs.Volume.{IsSettled, size_of, OnlyAt}
+use Rattle.tt_disk.specs.Volume.{IsSettled, size_of, OnlyAt, Files, Outcomes, File}
 use Rattle.tt_gate.specs.declared.gate.GateFile.{GateFile}
 use Rattle.tt_gate.specs.declared.gate.GateRefusal.{GateRefusal}
 use Rattle.tt_gate.specs.Gate.{gated, end_of as gate_end}
@@ -16,10 +16,10 @@ use Rattle.tt_record.specs.BodyLaws.{body_is_read}
 use Rattle.tt_record.specs.Read.{entries_of}
 use Rattle.tt_log.specs.declared.log.Log.{Log}
 use Rattle.tt_log.specs.declared.refusal.LogRefusal.{LogRefusal}
-use Rattle.tt_log.specs.Walk.{Files, LogContents, walk, on_part, file_read, nothing, log_of, with_more, switched, switches, log_header}
+use Rattle.tt_log.specs.Walk.{LogContents, walk, on_part, file_read, nothing, log_of, with_more, switched, switches, log_header}
 use Rattle.tt_record.specs.Place.{position}
 use Rattle.tt_log.specs.Log.{IsOpen, MayLeave, CrashLeavesLog, CrashLeavesForced, OnlyTwo, IsUntouched, unforced, walk_end}
-use Rattle.tt_log.proofs.Crash.{Outcomes, Around, put_log, put_apart, put_left, all_left, same_in, switched_in, left_same, left_switched}
+use Rattle.tt_log.proofs.Crash.{Around, put_log, put_apart, put_left, all_left, same_in, switched_in, left_same, left_switched}
 use Rattle.tt_log.proofs.FileParts.{file_made}
 use Rattle.tt_log.proofs.Forcing.{IsFound, body_alone}
 use Rattle.tt_log.proofs.Following.{Standing}
@@ -87,7 +87,7 @@ pub record SwitchStep (first m : ℕ) (name : Name) (given body : List ℕ) (old
   pub entries : entries_of body ≡ Some (Switch (m + 1) ∷ [])
   pub only : OnlyAt name old new may may'
   pub crash : CrashLeavesFormerOrMore (may name) (gated (old name)) given (may' name)
-  pub next : (c : Option (List ℕ)) → may (LogFile (m + 1)) c → gated c ≡ Ok (log_header (m + 1), [])
+  pub next : (c : File) → may (LogFile (m + 1)) c → gated c ≡ Ok (log_header (m + 1), [])
   pub reads : may (LogFile (m + 1)) (old (LogFile (m + 1)))
   pub below : m < 999999
   pub low : first ≤ m

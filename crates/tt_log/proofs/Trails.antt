@@ -9,11 +9,11 @@ use Rattle.tt_log.specs.Lengths.{total}
 use Rattle.tt_record.specs.Place.{position_of, next_position, position}
 use Rattle.tt_log.specs.declared.log.Log.{Log}
 use Rattle.tt_log.specs.declared.refusal.LogRefusal.{LogRefusal}
-use Rattle.tt_log.specs.Walk.{Files, LogContents, placed, log_of, with_more, switched}
+use Rattle.tt_log.specs.Walk.{LogContents, placed, log_of, with_more, switched}
 use Rattle.tt_log.specs.Log.{MayLeave, CrashLeavesSwitched, CrashLeavesLogOr, IsOpen, Gave, unforced, write_position_of, walk_end, entries_in, forces_earlier, room_made, forced_of, trail_of, CrashLeavesForcedOrAll}
-use Rattle.tt_log.proofs.Crash.{Outcomes}
 use Rattle.tt_log.proofs.Walks.{placed_more}
 use Rattle.tt_log.proofs.Forcing.{more_end, more_none}
+use Rattle.tt_disk.specs.Volume.{Files, Outcomes}
 
 abbrev Standing : Type 0
 Standing = Result LogContents LogRefusal

@@ -1,6 +1,8 @@
 -- What the walk through the files of a log has found.
 use Rattle.std.specs.Prelude.{◌≡◌, ◌⊎◌, ◌<◌, ◌≤◌, ℕ, List, true, false, Option, Result, Ok, Err}
 use Rattle.tt_disk.specs.declared.volume.Name.TheVariants.{Log as LogFile}
+use Rattle.tt_disk.specs.Volume.{Files, File}
+use Rattle.tt_record.specs.Limits.{log_files_end}
 use Rattle.tt_gate.specs.GateFile.{IsEnd as IsGateEnd}
 use Rattle.tt_gate.specs.Walk.{IsGate}
 use Rattle.tt_value.specs.declared.position.Position.{Position}
@@ -13,8 +15,8 @@ use Rattle.tt_log.specs.declared.file.BatchStep.TheVariants.{On, Ends}
 use Rattle.tt_log.specs.declared.opening.LogEnd.{LogEnd}
 use Rattle.tt_log.specs.declared.refusal.LogRefusal.{LogRefusal}
 use Rattle.tt_log.specs.declared.refusal.LogRefusal.TheVariants.{Failed, NoMemory}
-use Rattle.tt_log.specs.Walk.{Files, LogContents, Part, before}
-use Rattle.tt_log.specs.Limits.{FILE_MOST, LAST_LOG_FILE, LOG_FILES_END}
+use Rattle.tt_log.specs.Walk.{LogContents, Part, before}
+use Rattle.tt_log.specs.Limits.{file_most, last_log_file}
 use Rattle.tt_log.specs.Batch.{rest_read, IsRefused}
 use Rattle.tt_log.specs.Opening.{starts_at, is_place}
 use Rattle.tt_gate.specs.Limits.{FIRST_GATE, LONGEST_FILE}
@@ -34,33 +36,33 @@ IsFileEnd wanted part (Ok end) = HasEnd wanted part end
 IsFileEnd wanted part (Err e) = IsRefused e part
 
 -- a file's entries were read up to a gate
-pub record IsReached (wanted n : ℕ) (file : Option (List ℕ)) (at : FileCursor) : Type 0 where
+pub record IsReached (wanted n : ℕ) (file : File) (at : FileCursor) : Type 0 where
   pub es : List Entry
   pub gate : IsGate file at.gate
   pub is : rest_read n FIRST_GATE 0 file ≡ before es (rest_read n at.gate at.offset file)
   pub long : total es ≡ at.offset
   pub starts : at.starts ≡ starts_at wanted 0 es
 
-abbrev pub HasRead : ℕ → ℕ → Option (List ℕ) → Result BatchStep LogRefusal → Type 0
+abbrev pub HasRead : ℕ → ℕ → File → Result BatchStep LogRefusal → Type 0
 HasRead wanted n file (Ok (On at)) = IsReached wanted n file at
 HasRead wanted n file (Ok (Ends end)) = HasEnd wanted (rest_read n FIRST_GATE 0 file) end
 HasRead wanted n file (Err e) = IsRefused e (rest_read n FIRST_GATE 0 file)
 
 -- where no Switch ends a file's entries, the closed gate behind them lies where the end says
-abbrev pub Closes : Option (List ℕ) → FileEnd → Type 0
+abbrev pub Closes : File → FileEnd → Type 0
 Closes file end = end.switched ≡ false → IsGateEnd file end.gate
 
 -- where a walk ends its file without a Switch, the closed gate lies where the end says
-abbrev pub ClosesIfEnded : Option (List ℕ) → BatchStep → Type 0
+abbrev pub ClosesIfEnded : File → BatchStep → Type 0
 ClosesIfEnded file (On at) = Unit {0}
 ClosesIfEnded file (Ends end) = Closes file end
 
 -- the ranges of what was reached
 abbrev pub HasRoom : ℕ → FileCursor → Type 0
-HasRoom gate at = (gate < at.gate) × (at.gate < LONGEST_FILE) × (at.offset ≤ FILE_MOST)
+HasRoom gate at = (gate < at.gate) × (at.gate < LONGEST_FILE) × (at.offset ≤ file_most)
 
 abbrev pub IsInRange : ℕ → FileEnd → Type 0
-IsInRange n end = (end.total ≤ FILE_MOST) × (end.switched ≡ true → n < LAST_LOG_FILE) × (end.gate < LONGEST_FILE)
+IsInRange n end = (end.total ≤ file_most) × (end.switched ≡ true → n < last_log_file) × (end.gate < LONGEST_FILE)
 
 abbrev pub StepsWithin : ℕ → ℕ → BatchStep → Type 0
 StepsWithin n gate (On at) = HasRoom gate at
@@ -78,7 +80,7 @@ IsFollowed r (Err e) = (e ≡ Failed) ⊎ ((e ≡ NoMemory) ⊎ (r ≡ Err e))
 
 -- the ranges of a log's end, in a file from n on
 abbrev pub IsLogEndInRange : ℕ → LogEnd → Type 0
-IsLogEndInRange n end = (n ≤ end.at.file) × (end.at.file < LOG_FILES_END) × (end.at.offset ≤ FILE_MOST) × (end.gate < LONGEST_FILE)
+IsLogEndInRange n end = (n ≤ end.at.file) × (end.at.file < log_files_end) × (end.at.offset ≤ file_most) × (end.gate < LONGEST_FILE)
 
 -- the closed gate behind a log's end lies where it says
 abbrev pub IsClosedIn : Files → LogEnd → Type 0

@@ -1,6 +1,7 @@
 -- Where entries start.
 use Rattle.std.specs.Prelude.{◌≡◌, ◌≤◌, ◌+◌, ◌==◌, ◌||◌, ℕ, List, [], ◌∷◌, length, drop, Bool, false, if◌then◌else◌, Some, Result, Ok, Err}
 use Rattle.tt_disk.specs.declared.volume.Name.TheVariants.{Log}
+use Rattle.tt_disk.specs.Volume.{Files}
 use Rattle.tt_value.specs.declared.position.Position.{Position}
 use Rattle.tt_record.specs.declared.entry.Entry.{Entry}
 use Rattle.tt_record.specs.Entry.{length_of}
@@ -8,7 +9,7 @@ use Rattle.tt_record.specs.Read.{entry_at}
 use Rattle.tt_log.specs.Lengths.{total}
 use Rattle.tt_log.specs.declared.refusal.LogRefusal.{LogRefusal}
 use Rattle.tt_log.specs.declared.refusal.LogRefusal.TheVariants.{BadBatch}
-use Rattle.tt_log.specs.Walk.{Files, LogContents, Part, file_read, log_of}
+use Rattle.tt_log.specs.Walk.{LogContents, Part, file_read, log_of}
 
 -- one of these entries, of which the first stands at an offset, starts at k
 abbrev pub starts_at : ℕ → ℕ → List Entry → Bool

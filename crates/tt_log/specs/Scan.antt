@@ -1,6 +1,8 @@
 -- The entries that a scan still has to give.
 use Rattle.std.specs.Prelude.{◌≡◌, ◌<◌, ◌≤◌, ◌+◌, ◌-◌, ◌*◌, ℕ, List, [], ◌∷◌, length, drop, filter, nat_le, true, false, if◌then◌else◌, Option, Some, None, Result, Ok, Err, IsOk}
 use Rattle.tt_disk.specs.Calls.{KeepsFiles}
+use Rattle.tt_disk.specs.Volume.{Files}
+use Rattle.tt_record.specs.Limits.{log_files_end}
 use Rattle.tt_disk.specs.declared.volume.Volume.{Ghosts}
 use Rattle.tt_disk.specs.declared.volume.Name.TheVariants.{Log as LogFile}
 use Rattle.tt_value.specs.declared.position.Position.{Position}
@@ -11,10 +13,9 @@ use Rattle.tt_log.specs.Lengths.{total}
 use Rattle.tt_log.specs.declared.log.Log.{Log}
 use Rattle.tt_log.specs.declared.scan.Scan.{Scan}
 use Rattle.tt_log.specs.declared.refusal.LogRefusal.{LogRefusal}
-use Rattle.tt_log.specs.Walk.{Files, LogContents, Part, file_read, placed, in_front, log_of, is_from}
+use Rattle.tt_log.specs.Walk.{LogContents, Part, file_read, placed, in_front, log_of, is_from}
 use Rattle.tt_log.specs.Batch.{rest_read, IsHeaded}
 use Rattle.tt_log.specs.Log.{or_none, entries_in, walk_end}
-use Rattle.tt_log.specs.Limits.{LOG_FILES_END}
 use Rattle.tt_gate.specs.Limits.{FIRST_GATE, LONGEST_FILE}
 
 -- the entries of a body that was read
@@ -51,7 +52,7 @@ pub record StepsOn {V : Type 0} (g : Ghosts V) (old new : Scan) (before after : 
   pub going : g.told → IsGoing new (g.now after)
   pub same : g.told → ahead new (g.now after) ≡ ahead old (g.now before)
   pub from : new.from ≡ old.from
-  pub file : new.file < LOG_FILES_END
+  pub file : new.file < log_files_end
   pub keeps : KeepsFiles g before after
 
 -- no entry stands ahead
@@ -93,7 +94,7 @@ with_given (Some p) rest = p ∷ rest
 
 -- a bound on how much can still be read
 abbrev pub most_left : Scan → ℕ
-most_left scan = (LOG_FILES_END - scan.file) * LONGEST_FILE + (LONGEST_FILE - scan.gate) + (length scan.body.items - scan.at)
+most_left scan = (log_files_end - scan.file) * LONGEST_FILE + (LONGEST_FILE - scan.gate) + (length scan.body.items - scan.at)
 
 -- less is left to read
 abbrev pub HasLess : Scan → Scan → Type 0

@@ -1,6 +1,7 @@
 -- Entries that are handed to what takes them.
 use Rattle.std.specs.Prelude.{◌≡◌, ◌+◌, ℕ, List, [], ◌∷◌, ◌++◌, Bool, false, Option, Result, Ok, Err}
 use Rattle.tt_disk.specs.declared.volume.Name.TheVariants.{Log}
+use Rattle.tt_disk.specs.Volume.{Files, File}
 use Rattle.tt_value.specs.declared.position.Position.{Position}
 use Rattle.tt_record.specs.declared.entry.Entry.{Entry}
 use Rattle.tt_log.specs.Lengths.{total}
@@ -8,7 +9,7 @@ use Rattle.tt_log.specs.declared.file.FileCursor.{FileCursor}
 use Rattle.tt_log.specs.declared.file.BatchStep.{BatchStep}
 use Rattle.tt_log.specs.declared.file.BatchStep.TheVariants.{On, Ends}
 use Rattle.tt_log.specs.declared.refusal.LogRefusal.{LogRefusal}
-use Rattle.tt_log.specs.Walk.{Files, Part, before, file_read, placed, log_of}
+use Rattle.tt_log.specs.Walk.{Part, before, file_read, placed, log_of}
 use Rattle.tt_log.specs.Batch.{rest_read}
 use Rattle.tt_log.specs.Opening.{HasEntry}
 use Rattle.tt_log.specs.Log.{entries_in}
@@ -28,13 +29,13 @@ abbrev pub VisitsPart : ℕ → (List (Position × Entry) → Type 0) → (List 
 VisitsPart n old new part = (es : List Entry) (switched : Bool) → part ≡ Ok (es, switched) → Visits old new (placed n 0 es)
 
 -- the entries of file n between two gates
-pub record VisitsUpTo (n : ℕ) (old new : List (Position × Entry) → Type 0) (at next : FileCursor) (file : Option (List ℕ)) : Type 0 where
+pub record VisitsUpTo (n : ℕ) (old new : List (Position × Entry) → Type 0) (at next : FileCursor) (file : File) : Type 0 where
   pub es : List Entry
   pub goes : rest_read n at.gate at.offset file ≡ before es (rest_read n next.gate next.offset file)
   pub long : next.offset ≡ at.offset + total es
   pub takes : Visits old new (placed n at.offset es)
 
-abbrev pub VisitsBatch : ℕ → (List (Position × Entry) → Type 0) → (List (Position × Entry) → Type 0) → FileCursor → Option (List ℕ) → Result BatchStep LogRefusal → Type 0
+abbrev pub VisitsBatch : ℕ → (List (Position × Entry) → Type 0) → (List (Position × Entry) → Type 0) → FileCursor → File → Result BatchStep LogRefusal → Type 0
 VisitsBatch n old new at file (Ok (On next)) = VisitsUpTo n old new at next file
 VisitsBatch n old new at file (Ok (Ends end)) = (rest_read n at.gate at.offset file ≡ Ok ([], end.switched)) × Visits old new []
 VisitsBatch n old new at file (Err e) = Unit {0}

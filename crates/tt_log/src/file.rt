@@ -11,7 +11,7 @@ ghost use Rattle.tt_log.specs.Lengths.{total};
 ghost use Rattle.tt_log.specs.Opening.{starts_at};
 ghost use Rattle.tt_log.specs.Batch.{IsHeaded, rest_read};
 ghost use Rattle.tt_log.specs.Walk.{file_read, placed};
-ghost use Rattle.tt_log.specs.Limits.{FILE_MOST};
+ghost use Rattle.tt_log.specs.Limits.{file_most};
 ghost use Rattle.tt_log.specs.Visitor.{Visits, VisitsBatch, VisitsPart};
 ghost use Rattle.tt_log.specs.File.{IsFileEnd, IsReached, IsInRange, HasRead, StepsWithin, Closes, ClosesIfEnded};
 ghost use Rattle.tt_log.specs.declared.refusal.LogRefusal.TheVariants.{Failed};
@@ -62,7 +62,7 @@ fn deliver_batch<T: EntryVisitor>(
     visitor: &mut T,
 ) -> Result<FileCursor, LogRefusal>
     requires inside { at.gate + 9 + length body.now < LONGEST_FILE }
-    requires room { at.offset + length body.now ≤ FILE_MOST }
+    requires room { at.offset + length body.now ≤ file_most }
     ensures gate { IfOk result (λ next. next.gate ≡ at.gate + 9 + length body.now) }
     ensures offset { IfOk result (λ next. next.offset ≡ at.offset + length body.now) }
     ensures starts { IfOk result (λ next. (es : List Entry) → entries_of body.now ≡ Some es → total es ≡ length body.now
@@ -110,7 +110,7 @@ fn read_next_batch<V: Volume, T: EntryVisitor>(
     requires headed { OfFile V.Volume number volume.old (λ file. IsHeaded number file) }
     requires gate { (0 < at.gate) × (at.gate < LONGEST_FILE) }
     requires reached { OfFile V.Volume number volume.old (λ file. IsReached wanted number file at) }
-    requires room { at.offset ≤ FILE_MOST }
+    requires room { at.offset ≤ file_most }
     ensures exact { OfFile V.Volume number volume.old (λ file. HasRead wanted number file result) }
     ensures closed { OfFile V.Volume number volume.old (λ file. IfOk result (ClosesIfEnded file)) }
     ensures within { IfOk result (λ went. StepsWithin number at.gate went) }

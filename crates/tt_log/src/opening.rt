@@ -3,6 +3,7 @@
 ghost use Rattle.std.specs.Prelude.{◌≡◌, ◌<◌, IfOk, OnOk, IsErrOf};
 ghost use Rattle.tt_gate.specs.Calls.{RoseWhereOn};
 ghost use Rattle.tt_disk.specs.Calls.{KeepsFiles};
+ghost use Rattle.tt_record.specs.Limits.{log_files_end};
 ghost use Rattle.tt_log.specs.Calls.{OfFile, OfFiles};
 ghost use Rattle.tt_log.specs.Walk.{file_read, log_of};
 ghost use Rattle.tt_log.specs.Opening.{started, IsStart};
@@ -10,7 +11,6 @@ ghost use Rattle.tt_log.specs.Visitor.{Visits, VisitsLog};
 ghost use Rattle.tt_log.specs.Log.{entries_in};
 ghost use Rattle.tt_log.specs.File.{IsEnd, HasEnd, IsInRange, IsFollowed, IsLogEndInRange, IsClosedIn, Closes};
 ghost use Rattle.tt_log.specs.declared.refusal.LogRefusal.TheVariants.{Failed};
-ghost use Rattle.tt_log.specs.Limits.{LOG_FILES_END};
 
 use crate::file::{FileEnd, read_file};
 use crate::refusal::LogRefusal;
@@ -38,7 +38,7 @@ fn follow<V: Volume, T: EntryVisitor>(
     end: FileEnd,
     visitor: &mut T,
 ) -> Result<LogEnd, LogRefusal>
-    requires number { number < LOG_FILES_END }
+    requires number { number < log_files_end }
     requires range { IsInRange number end }
     requires end { OfFile V.Volume number volume.old (λ file. IsEnd (file_read number file) end) }
     requires closed { OfFile V.Volume number volume.old (λ file. Closes file end) }
@@ -77,7 +77,7 @@ fn follow_from<V: Volume, T: EntryVisitor>(
     first: FileEnd,
     visitor: &mut T,
 ) -> Result<LogEnd, LogRefusal>
-    requires number { from.file < LOG_FILES_END }
+    requires number { from.file < log_files_end }
     requires range { IsInRange from.file first }
     requires end { OfFile V.Volume from.file volume.old (λ file. HasEnd from.offset (file_read from.file file) first) }
     requires closed { OfFile V.Volume from.file volume.old (λ file. Closes file first) }

@@ -2,10 +2,12 @@
 ghost use Rattle.std.specs.Prelude.{◌≡◌, ◌⊎◌, ◌<◌, ◌≤◌, ◌+◌, ◌-◌, ◌^◌, [], ◌∷◌, length, not, true, false};
 ghost use Rattle.std.specs.Prelude.{IfOk, IfErr, IfSome, OnOk, IsErrOf};
 ghost use Rattle.tt_disk.specs.Calls.{KeepsFiles};
+ghost use Rattle.tt_disk.specs.Volume.{Files};
+ghost use Rattle.tt_record.specs.Limits.{log_files_end};
 ghost use Rattle.tt_record.specs.declared.entry.Entry.{Entry};
 ghost use Rattle.tt_record.specs.Entry.{IsEntry};
-ghost use Rattle.tt_log.specs.Walk.{Files, is_from, in_front};
-ghost use Rattle.tt_log.specs.Limits.{FILE_MOST, LAST_LOG_FILE, LOG_FILES_END};
+ghost use Rattle.tt_log.specs.Walk.{is_from, in_front};
+ghost use Rattle.tt_log.specs.Limits.{file_most, last_log_file};
 ghost use Rattle.tt_log.specs.declared.refusal.LogRefusal.TheVariants.{Failed, NoMemory};
 ghost use Rattle.tt_gate.specs.Limits.{FIRST_GATE, LONGEST_FILE};
 
@@ -34,7 +36,7 @@ pub struct Scan {
     at: usize,
     ghost inside: { at ≤ length body.items },
     ghost gates: { (FIRST_GATE ≤ gate) × (gate < LONGEST_FILE) },
-    ghost offsets: { offset + (length body.items - at) ≤ FILE_MOST },
+    ghost offsets: { offset + (length body.items - at) ≤ file_most },
 }
 
 // What was read next.
@@ -84,7 +86,7 @@ impl Scan {
 
     // Reads the header of the file, if it wasn't read.
     fn enter<V: Volume>(&mut self, volume: &mut V) -> Result<(), LogRefusal>
-        requires file { self.old.file < LOG_FILES_END }
+        requires file { self.old.file < log_files_end }
         requires going { OfFiles V.Volume volume.old (λ files. IsGoing self.old files) }
         ensures steps { StepsOn V.Volume self.old self.new volume.old volume.new }
         ensures begun { OnOk result (self.new.begun ≡ true) }
@@ -107,7 +109,7 @@ impl Scan {
 
     // Goes on in the next file.
     fn switch_file(&mut self)
-        requires file { self.old.file < LAST_LOG_FILE }
+        requires file { self.old.file < last_log_file }
         ensures file { self.new.file ≡ self.old.file + 1 }
         ensures begun { self.new.begun ≡ false }
         ensures gate { self.new.gate ≡ FIRST_GATE }
@@ -127,7 +129,7 @@ impl Scan {
     fn fill(&mut self, body: Vec<u8>)
         requires none { IsUsedUp self.old }
         requires inside { self.old.gate + 9 + length body.items < LONGEST_FILE }
-        requires room { self.old.offset + length body.items ≤ FILE_MOST }
+        requires room { self.old.offset + length body.items ≤ file_most }
         ensures file { self.new.file ≡ self.old.file }
         ensures begun { self.new.begun ≡ self.old.begun }
         ensures gate { self.new.gate ≡ self.old.gate + 9 + length body.items }
@@ -143,7 +145,7 @@ impl Scan {
 
     // Reads what stands behind the gate, where all entries before it were given.
     fn load<V: Volume>(&mut self, volume: &mut V) -> Result<Loaded, LogRefusal>
-        requires file { self.old.file < LOG_FILES_END }
+        requires file { self.old.file < log_files_end }
         requires begun { self.old.begun ≡ true }
         requires none { IsUsedUp self.old }
         requires going { OfFiles V.Volume volume.old (λ files. IsGoing self.old files) }
@@ -173,7 +175,7 @@ impl Scan {
 
     // Reads the header where it wasn't read, and then what stands behind the gate.
     fn enter_and_load<V: Volume>(&mut self, volume: &mut V) -> Result<Loaded, LogRefusal>
-        requires file { self.old.file < LOG_FILES_END }
+        requires file { self.old.file < log_files_end }
         requires none { IsUsedUp self.old }
         requires going { OfFiles V.Volume volume.old (λ files. IsGoing self.old files) }
         ensures steps { StepsOn V.Volume self.old self.new volume.old volume.new }
@@ -192,7 +194,7 @@ impl Scan {
 
     // Reads on until there are entries, or until the log ends.
     fn refill<V: Volume>(&mut self, volume: &mut V) -> Result<bool, LogRefusal>
-        requires file { self.old.file < LOG_FILES_END }
+        requires file { self.old.file < log_files_end }
         requires none { IsUsedUp self.old }
         requires going { OfFiles V.Volume volume.old (λ files. IsGoing self.old files) }
         ensures steps { StepsOn V.Volume self.old self.new volume.old volume.new }
@@ -214,7 +216,7 @@ impl Scan {
 
     // Sees to it that an entry is at hand; `false` where the log ends.
     fn more<V: Volume>(&mut self, volume: &mut V) -> Result<bool, LogRefusal>
-        requires file { self.old.file < LOG_FILES_END }
+        requires file { self.old.file < log_files_end }
         requires going { OfFiles V.Volume volume.old (λ files. IsGoing self.old files) }
         ensures steps { StepsOn V.Volume self.old self.new volume.old volume.new }
         ensures some { IfOk result (λ more. more ≡ true → HasMore self.new) }
@@ -332,7 +334,7 @@ impl Scan {
 
     // The next entry at or behind the first position, where the scan isn't past the log's current file.
     fn find<V: Volume>(&mut self, volume: &mut V) -> Result<Option<(Position, Entry)>, LogRefusal>
-        requires file { self.old.file < LOG_FILES_END }
+        requires file { self.old.file < log_files_end }
         requires going { OfFiles V.Volume volume.old (λ files. IsGoing self.old files) }
         ensures going { OfFiles V.Volume volume.new (λ files. IsGoing self.new files) }
         ensures end { OfBoth V.Volume volume.old volume.new (λ before after.

@@ -5,7 +5,7 @@ ghost use Rattle.tt_record.specs.declared.entry.Entry.{Entry};
 ghost use Rattle.tt_record.specs.Entry.{IsEntry};
 ghost use Rattle.tt_record.specs.Read.{entry_at, entries_of};
 ghost use Rattle.tt_log.specs.Walk.{placed};
-ghost use Rattle.tt_log.specs.Limits.{FILE_MOST};
+ghost use Rattle.tt_log.specs.Limits.{file_most};
 ghost use Rattle.tt_log.specs.Visitor.{Visits, VisitsOne};
 
 use crate::body::read_entry_at;
@@ -67,7 +67,7 @@ pub(crate) fn visit_body<T: EntryVisitor>(
     offset: u32,
     visitor: &mut T,
 ) -> Result<(), AllocError>
-    requires room { offset + length bytes.now ≤ FILE_MOST }
+    requires room { offset + length bytes.now ≤ file_most }
     ensures given { (es : List Entry) → entries_of bytes.now ≡ Some es
         → OnOk result (Visits (T.visited visitor.old) (T.visited visitor.new) (placed file offset es)) }
 {

@@ -1,6 +1,6 @@
 use Rattle.tt_disk.specs.declared.volume.Name.TheVariants.{Log as LogFile}
+use Rattle.tt_disk.specs.Volume.{Files}
 use Rattle.std.proofs.Common.{◌≡◌, sym, refl, subst}
-use Rattle.tt_log.specs.Walk.{Files}
 use Rattle.tt_log.specs.Opening.{started}
 use Rattle.tt_log.specs.File.{IsFollowed}
 use Rattle.tt_log.proofs.Following.{start_past, end_answered, end_refused, first_refused}

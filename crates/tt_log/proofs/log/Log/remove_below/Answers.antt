@@ -5,6 +5,7 @@ use Rattle.tt_log.proofs.Forcing.{is_found}
 use Rattle.tt_log.proofs.Purge.{Removed, below_gone, above_gone, ready_between, out_low, out_high, removed_open, removed_forced}
 use Rattle.std.specs.Prelude.{IsSome}
 use Rattle.tt_disk.specs.declared.volume.Name.TheVariants.{Log as LogFile}
+use Rattle.tt_disk.specs.Volume.{File}
 use Rattle.tt_log.proofs.Standing.{file_there}
 use Rattle.tt_log.proofs.log.Log.remove_below.Given.{Over}
 use Rattle.tt_log.proofs.log.Log.remove_below.Goals.{After-remove_logs, After-remove_logs-2}
@@ -70,7 +71,7 @@ returns-in_err-remove_logs-clause-there g c told k low high =
     let first : log.first_file ≤ k = omega (arith, c.max-self.ensures, low) in
     let above : c.args.file ≤ k = omega (arith, c.max-self.ensures, low) in
     let stays = (c.remove_logs.ensures.others told).reads (LogFile k) (out_high 0 c.args.file k above) in
-    subst (λ (f : Option (List ℕ)). IsSome f) (sym stays) (file_there log (g.V.Volume.now c.args.volume.now) k (o.whole, o.end) first high log.numbers)
+    subst (λ (f : File). IsSome f) (sym stays) (file_there log (g.V.Volume.now c.args.volume.now) k (o.whole, o.end) first high log.numbers)
 
 pub returns-clause-there : goal.returns-clause-there
 returns-clause-there g c told k low high =
@@ -80,7 +81,7 @@ returns-clause-there g c told k low high =
     let above : c.args.file ≤ k = omega (arith, c.max-self.ensures, low) in
     let stays = (c.remove_logs.ensures.others told).reads (LogFile k) (out_high 0 c.args.file k above) in
     let stays2 = (c.remove_logs-2.ensures.others told).reads (LogFile k) (out_low (log.current_file + 1) _ k (omega (arith, high))) in
-    subst (λ (f : Option (List ℕ)). IsSome f) (sym (stays2 ∙ stays)) (file_there log (g.V.Volume.now c.args.volume.now) k (o.whole, o.end) first high log.numbers)
+    subst (λ (f : File). IsSome f) (sym (stays2 ∙ stays)) (file_there log (g.V.Volume.now c.args.volume.now) k (o.whole, o.end) first high log.numbers)
 
 pub returns-in_err-remove_logs-clause-stay : goal.returns-in_err-remove_logs-clause-stay
 returns-in_err-remove_logs-clause-stay g c told k low high =

@@ -1,12 +1,12 @@
 use Rattle.std.proofs.Common.{◌≡◌, ◌⊎◌, ◌+◌, ◌++◌, inl, inr, ℕ, sym, ap, ◌∙◌, subst, arith}
 use Rattle.std.specs.Prelude.{IsOk}
-use Rattle.tt_disk.specs.Volume.{OnlyAt}
+use Rattle.tt_disk.specs.Volume.{OnlyAt, Files}
 use Rattle.tt_disk.specs.declared.volume.Name.{Name}
 use Rattle.tt_disk.specs.declared.volume.Name.TheVariants.{Log as LogFile}
 use Rattle.tt_gate.specs.GateFile.{staged_in}
 use Rattle.tt_record.specs.declared.entry.Entry.TheVariants.{Switch}
 use Rattle.tt_record.specs.Entry.{entry_bytes}
-use Rattle.tt_log.specs.Walk.{Files, log_of, switched, with_more}
+use Rattle.tt_log.specs.Walk.{log_of, switched, with_more}
 use Rattle.tt_record.specs.Place.{position}
 use Rattle.tt_log.specs.Log.{CrashLeavesForced, IsForced, MayLeave, OnlyTwo, unforced, walk_end}
 use Rattle.tt_log.proofs.Adding.{none_left}

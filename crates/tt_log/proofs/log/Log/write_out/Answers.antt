@@ -6,7 +6,7 @@ use Rattle.tt_record.specs.declared.entry.Entry.{Entry}
 use Rattle.tt_log.specs.declared.refusal.LogRefusal.{LogRefusal}
 use Rattle.tt_gate.specs.GateFile.{staged_in}
 use Rattle.tt_log.specs.declared.log.Log.{Log}
-use Rattle.tt_log.specs.Walk.{Files, LogContents, log_of, with_more, no_switch}
+use Rattle.tt_log.specs.Walk.{LogContents, log_of, with_more, no_switch}
 use Rattle.tt_log.specs.Log.{CrashLeavesForced, CrashLeavesLogOr, unforced, or_none, walk_end}
 use Rattle.tt_log.proofs.Crash.{Around}
 use Rattle.tt_log.proofs.Forcing.{Batch, IsFound, found_open, forcing, around, more_none, more_end, no_entries, forced_now, forced_left, forced_kept}
@@ -14,6 +14,7 @@ use Rattle.tt_record.specs.Entry.{IsBody}
 use Rattle.tt_record.specs.BodyLaws.{no_body}
 use Rattle.tt_log.proofs.log.Log.write_out.Given.{Over}
 use Rattle.tt_log.proofs.log.Log.write_out.Goals.{After-append_batch}
+use Rattle.tt_disk.specs.Volume.{Files}
 use Rattle.tt_log.proofs.log.Log.write_out.Goals as goal
 
 pub returns-then-self-eq0-clause-done : goal.returns-then-self-eq0-clause-done
