@@ -93,20 +93,6 @@ above_gone first k m base end old mid new may may1 may2 f reads s only =
           (ap gated (sym (range_apart (m + 1) end mid files (LogFile m) (out_low (m + 1) end m (omega arith))))) ∙ sym g.is;
     }
 
--- a file of a GateFile that wasn't removed
-pub ready_between : (file : GateFile) (from end : ℕ) (now now' : Files) (may may' : Outcomes) → is_between from end file.name ≡ false → OnlyBetween from end now now' may may' → IsReady file now may → IsReady file now' may'
-ready_between file from end now now' may may' out only r =
-    let e = only.reads file.name out in
-    record {
-      laid = record {
-        whole = subst (λ o. IsOk (gated o)) (sym e) r.laid.whole;
-        gate = subst (λ o. file.gate ≡ gate_end (bodies_of (gated o))) (sym e) r.laid.gate;
-        room = subst (λ o. 0 < file.staged → 9 + file.gate + file.staged ≤ size_of o) (sym e) r.laid.room;
-      };
-      kept = λ s c left. r.kept s c (only.crash file.name out c left) ∙ sym (ap gated e);
-      begun = r.begun;
-    }
-
 -- the log from a later file on, once others are gone
 pub record Removed (log : Log) (k : ℕ) (old new : Files) (may may' : Outcomes) : Type 0 where
   pub shrunk : Shrunk log.first_file k old new may may'

@@ -60,6 +60,10 @@ IsGateAt n at file result = (result ≡ Err Failed) ⊎ (result ≡ gate_for n (
 abbrev pub IsAfterSwitch : ℕ → ℕ → File → Result Batch LogRefusal → Type 0
 IsAfterSwitch n next file result = (result ≡ Err Failed) ⊎ (result ≡ after_switch_by n next (gate_in next file))
 
+-- these are so many bytes of the file, from an offset on
+abbrev pub IsPiece : ℕ → ℕ → File → List ℕ → Type 0
+IsPiece at count file bytes = bytes ≡ take count (drop at (bytes_of file))
+
 -- a batch with this body stands whole behind the gate
 pub record IsFull (gate : ℕ) (body : List ℕ) (file : File) : Type 0 where
   pub some : 0 < gate

@@ -1,5 +1,5 @@
 -- What the walk through the files of a log has found.
-use Rattle.std.specs.Prelude.{◌≡◌, ◌⊎◌, ◌<◌, ◌≤◌, ℕ, List, true, false, Option, Result, Ok, Err}
+use Rattle.std.specs.Prelude.{◌+◌, ◌||◌, length, Some, IfOk, OnOk, ◌≡◌, ◌⊎◌, ◌<◌, ◌≤◌, ℕ, List, true, false, Option, Result, Ok, Err}
 use Rattle.tt_disk.specs.declared.volume.Name.TheVariants.{Log as LogFile}
 use Rattle.tt_disk.specs.Volume.{Files, File}
 use Rattle.tt_record.specs.Limits.{log_files_end}
@@ -7,6 +7,7 @@ use Rattle.tt_gate.specs.GateFile.{IsEnd as IsGateEnd}
 use Rattle.tt_gate.specs.Walk.{IsGate}
 use Rattle.tt_value.specs.declared.position.Position.{Position}
 use Rattle.tt_record.specs.declared.entry.Entry.{Entry}
+use Rattle.tt_record.specs.Read.{entries_of}
 use Rattle.tt_log.specs.Lengths.{total}
 use Rattle.tt_log.specs.declared.file.FileEnd.{FileEnd}
 use Rattle.tt_log.specs.declared.file.FileCursor.{FileCursor}
@@ -18,7 +19,7 @@ use Rattle.tt_log.specs.declared.refusal.LogRefusal.TheVariants.{Failed, NoMemor
 use Rattle.tt_log.specs.Walk.{LogContents, Part, before}
 use Rattle.tt_log.specs.Limits.{file_most, last_log_file}
 use Rattle.tt_log.specs.Batch.{rest_read, IsRefused}
-use Rattle.tt_log.specs.Opening.{starts_at, is_place}
+use Rattle.tt_log.specs.Opening.{IsStart, started, starts_at, is_place}
 use Rattle.tt_gate.specs.Limits.{FIRST_GATE, LONGEST_FILE}
 
 -- a file's entries were all read
@@ -42,6 +43,12 @@ pub record IsReached (wanted n : ℕ) (file : File) (at : FileCursor) : Type 0 w
   pub is : rest_read n FIRST_GATE 0 file ≡ before es (rest_read n at.gate at.offset file)
   pub long : total es ≡ at.offset
   pub starts : at.starts ≡ starts_at wanted 0 es
+
+-- a cursor behind a batch of this body: one that follows another
+pub record IsBehind (wanted : ℕ) (at : FileCursor) (body : List ℕ) (next : FileCursor) : Type 0 where
+  pub gate : next.gate ≡ at.gate + 9 + length body
+  pub offset : next.offset ≡ at.offset + length body
+  pub starts : (es : List Entry) → entries_of body ≡ Some es → total es ≡ length body → next.starts ≡ (at.starts || starts_at wanted at.offset es)
 
 abbrev pub HasRead : ℕ → ℕ → File → Result BatchStep LogRefusal → Type 0
 HasRead wanted n file (Ok (On at)) = IsReached wanted n file at
@@ -85,3 +92,10 @@ IsLogEndInRange n end = (n ≤ end.at.file) × (end.at.file < log_files_end) × 
 -- the closed gate behind a log's end lies where it says
 abbrev pub IsClosedIn : Files → LogEnd → Type 0
 IsClosedIn files end = IsGateEnd (files (LogFile end.at.file)) end.gate
+
+-- What a walk from a position on has found: the end of what the log is from there, or why it is refused.
+pub record Finds (from : Position) (files : Files) (result : Result LogEnd LogRefusal) : Type 0 where
+  pub exact : IsFollowed (started from files) result
+  -- where it was answered, the position is one that the log can be opened from
+  pub start : OnOk result (IsStart from files)
+  pub closed : IfOk result (IsClosedIn files)

@@ -1,15 +1,14 @@
 //! A pass over the forced entries of a log in their order. It reads each file once, batch by batch, and holds one body.
-ghost use Rattle.std.specs.Prelude.{◌≡◌, ◌⊎◌, ◌<◌, ◌≤◌, ◌+◌, ◌-◌, ◌^◌, [], ◌∷◌, length, not, true, false};
-ghost use Rattle.std.specs.Prelude.{IfOk, IfErr, IfSome, OnOk, IsErrOf};
+ghost use Rattle.std.specs.Prelude.{◌≡◌, ◌<◌, ◌≤◌, ◌+◌, ◌-◌, [], length, not, true, false, IfOk, IfErr, IfSome, OnOk, IsErrOf};
 ghost use Rattle.tt_disk.specs.Calls.{KeepsFiles};
 ghost use Rattle.tt_disk.specs.Volume.{Files};
-ghost use Rattle.tt_record.specs.Limits.{log_files_end};
+ghost use Rattle.tt_gate.specs.Limits.{FIRST_GATE, LONGEST_FILE};
 ghost use Rattle.tt_record.specs.declared.entry.Entry.{Entry};
 ghost use Rattle.tt_record.specs.Entry.{IsEntry};
-ghost use Rattle.tt_log.specs.Walk.{is_from, in_front};
+ghost use Rattle.tt_record.specs.Limits.{log_files_end};
 ghost use Rattle.tt_log.specs.Limits.{file_most, last_log_file};
-ghost use Rattle.tt_log.specs.declared.refusal.LogRefusal.TheVariants.{Failed, NoMemory};
-ghost use Rattle.tt_gate.specs.Limits.{FIRST_GATE, LONGEST_FILE};
+ghost use Rattle.tt_log.specs.Walk.{is_from};
+ghost use Rattle.tt_log.specs.declared.refusal.LogRefusal.TheVariants.{Failed};
 
 use crate::batch::{Batch, check_header, read_batch};
 use crate::body::read_entry_at;
@@ -58,10 +57,9 @@ fn is_before(at: Position, from: Position) -> bool
 
 impl Scan {
     ghost use Rattle.tt_gate.specs.Calls.{RoseWhereOn};
-    ghost use Rattle.tt_log.specs.Calls.{OfFiles, OfBoth, FailsOn, FailsOrWantsMemoryOn};
-    ghost use Rattle.tt_log.specs.Scan.{IsGoing, IsScanning, StepsOn, EndsOn, HasMore, IsUsedUp, HasLess, Switches};
-    ghost use Rattle.tt_log.specs.Scan.{ahead, left, from_here, given, with_given, most_left};
-    ghost use Rattle.tt_log.specs.Log.{walk_end};
+    ghost use Rattle.tt_log.specs.Calls.{OfFiles, FailsOn, FailsOrWantsMemoryOn};
+    ghost use Rattle.tt_log.specs.Scan.{IsGoing, IsScanning, IsUsedUp, HasMore, StaysInBatch, StepsOn, LoadsOn, EndsOn, GoesOnOn, GivesOn, GivesHereOn};
+    ghost use Rattle.tt_log.specs.Scan.{TakesAhead, TakesHere, first_position_of, most_left};
 
     // A scan that hasn't read anything.
     pub(crate) fn new(alloc: Global, from: Position) -> Scan
@@ -90,8 +88,9 @@ impl Scan {
         requires going { OfFiles V.Volume volume.old (λ files. IsGoing self.old files) }
         ensures steps { StepsOn V.Volume self.old self.new volume.old volume.new }
         ensures begun { OnOk result (self.new.begun ≡ true) }
-        ensures still { (self.new.file ≡ self.old.file) × (self.new.gate ≡ self.old.gate)
-            × (self.new.offset ≡ self.old.offset) × (self.new.body ≡ self.old.body) × (self.new.at ≡ self.old.at) }
+        ensures still { StaysInBatch self.old self.new }
+        ensures at { self.new.at ≡ self.old.at }
+        ensures offset { self.new.offset ≡ self.old.offset }
         ensures refused { FailsOn V.Volume result }
         ensures cause { RoseWhereOn V.Volume volume.old volume.new (IsErrOf result Failed) }
     {
@@ -150,10 +149,7 @@ impl Scan {
         requires none { IsUsedUp self.old }
         requires going { OfFiles V.Volume volume.old (λ files. IsGoing self.old files) }
         ensures steps { StepsOn V.Volume self.old self.new volume.old volume.new }
-        ensures body { IfOk result (λ loaded. loaded ≡ Loaded.Body → HasMore self.new) }
-        ensures switched { IfOk result (λ loaded. loaded ≡ Loaded.Switched → Switches self.old self.new) }
-        ensures nothing { IfOk result (λ got. got ≡ Loaded.Nothing → EndsOn V.Volume self.old volume.old) }
-        ensures fewer { IfOk result (λ loaded. (loaded ≡ Loaded.Nothing → ⊥) → HasLess self.old self.new) }
+        ensures loads { IfOk result (LoadsOn V.Volume self.old self.new volume.old) }
         ensures still { IfErr result (λ e. self.new ≡ self.old) }
         ensures refused { FailsOrWantsMemoryOn V.Volume result }
         ensures cause { RoseWhereOn V.Volume volume.old volume.new (IsErrOf result Failed) }
@@ -179,10 +175,7 @@ impl Scan {
         requires none { IsUsedUp self.old }
         requires going { OfFiles V.Volume volume.old (λ files. IsGoing self.old files) }
         ensures steps { StepsOn V.Volume self.old self.new volume.old volume.new }
-        ensures body { IfOk result (λ loaded. loaded ≡ Loaded.Body → HasMore self.new) }
-        ensures switched { IfOk result (λ loaded. loaded ≡ Loaded.Switched → Switches self.old self.new) }
-        ensures nothing { IfOk result (λ got. got ≡ Loaded.Nothing → EndsOn V.Volume self.old volume.old) }
-        ensures fewer { IfOk result (λ loaded. (loaded ≡ Loaded.Nothing → ⊥) → HasLess self.old self.new) }
+        ensures loads { IfOk result (LoadsOn V.Volume self.old self.new volume.old) }
         ensures refused { FailsOrWantsMemoryOn V.Volume result }
         ensures cause { RoseWhereOn V.Volume volume.old volume.new (IsErrOf result Failed) }
     {
@@ -236,8 +229,9 @@ impl Scan {
         requires { self.old.at + n ≤ length self.old.body.items }
         ensures at { self.new.at ≡ self.old.at + n }
         ensures offset { self.new.offset ≡ self.old.offset + n }
-        ensures still { (self.new.from ≡ self.old.from) × (self.new.file ≡ self.old.file)
-            × (self.new.begun ≡ self.old.begun) × (self.new.gate ≡ self.old.gate) × (self.new.body ≡ self.old.body) }
+        ensures still { StaysInBatch self.old self.new }
+        ensures begun { self.new.begun ≡ self.old.begun }
+        ensures from { self.new.from ≡ self.old.from }
     {
         self.at += n;
         self.offset += n as u32;
@@ -246,11 +240,8 @@ impl Scan {
     // Visits the entry that is at hand.
     fn take(&mut self) -> Result<(Position, Entry), LogRefusal>
         requires some { HasMore self.old }
-        ensures going { (files : Files) → IsGoing self.old files → IsGoing self.new files }
-        ensures given { (files : Files) → IsGoing self.old files
-            → IfOk result (λ p. ahead self.old files ≡ in_front (p ∷ []) (ahead self.new files)) }
+        ensures takes { (files : Files) → IsGoing self.old files → TakesAhead self.old self.new files result }
         ensures still { IfErr result (λ e. self.new ≡ self.old) }
-        ensures refused { (files : Files) → IsGoing self.old files → IfErr result (λ e. e ≡ NoMemory) }
         ensures unfailed { IsErrOf result Failed → ⊥ }
         ensures entry { IfOk result (λ p. IsEntry p.1) }
         ensures fewer { OnOk result (most_left self.new < most_left self.old) }
@@ -278,13 +269,8 @@ impl Scan {
     // Visits the entry that is at hand; `None` where it stands before the scan's first position.
     fn take_from(&mut self) -> Result<Option<(Position, Entry)>, LogRefusal>
         requires some { HasMore self.old }
-        ensures going { (files : Files) → IsGoing self.old files → IsGoing self.new files }
-        ensures end { (files : Files) → IsGoing self.old files
-            → (walk_end (ahead self.new files)).file ≡ (walk_end (ahead self.old files)).file }
-        ensures given { (files : Files) → IsGoing self.old files
-            → IfOk result (λ o. from_here self.old files ≡ with_given o (from_here self.new files)) }
+        ensures takes { (files : Files) → IsGoing self.old files → TakesHere self.old self.new files result }
         ensures still { IfErr result (λ e. self.new ≡ self.old) }
-        ensures refused { (files : Files) → IsGoing self.old files → IfErr result (λ e. e ≡ NoMemory) }
         ensures unfailed { IsErrOf result Failed → ⊥ }
         ensures entry { IfOk result (λ o. IfSome o (λ p. IsEntry p.1)) }
         ensures fewer { OnOk result (most_left self.new < most_left self.old) }
@@ -315,14 +301,11 @@ impl Scan {
     ) -> Result<Option<(Position, Entry)>, LogRefusal>
         requires scanning { OfFiles V.Volume volume.old (λ files. IsScanning self.old log.now files) }
         ensures scanning { OfFiles V.Volume volume.new (λ files. IsScanning self.new log.now files) }
-        ensures next { OfBoth V.Volume volume.old volume.new (λ before after.
-            IfOk result (λ o. left self.old log.now before ≡ given o (left self.new log.now after))) }
-        ensures still { OfBoth V.Volume volume.old volume.new (λ before after.
-            IfErr result (λ e. left self.new log.now after ≡ left self.old log.now before)) }
+        ensures gives { GivesOn V.Volume log.now self.old volume.old self.new volume.new result }
         ensures entry { IfOk result (λ o. IfSome o (λ p. IsEntry p.1)) }
         ensures fewer { IfOk result (λ o. IfSome o (λ p. most_left self.new < most_left self.old)) }
         ensures refused { FailsOrWantsMemoryOn V.Volume result }
-        ensures from { self.new.from ≡ self.old.from }
+        ensures from { first_position_of self.new ≡ first_position_of self.old }
         ensures keeps { KeepsFiles V.Volume volume.old volume.new }
         ensures cause { RoseWhereOn V.Volume volume.old volume.new (IsErrOf result Failed) }
     {
@@ -336,13 +319,8 @@ impl Scan {
     fn find<V: Volume>(&mut self, volume: &mut V) -> Result<Option<(Position, Entry)>, LogRefusal>
         requires file { self.old.file < log_files_end }
         requires going { OfFiles V.Volume volume.old (λ files. IsGoing self.old files) }
-        ensures going { OfFiles V.Volume volume.new (λ files. IsGoing self.new files) }
-        ensures end { OfBoth V.Volume volume.old volume.new (λ before after.
-            (walk_end (ahead self.new after)).file ≡ (walk_end (ahead self.old before)).file) }
-        ensures next { OfBoth V.Volume volume.old volume.new (λ before after.
-            IfOk result (λ o. from_here self.old before ≡ given o (from_here self.new after))) }
-        ensures still { OfBoth V.Volume volume.old volume.new (λ before after.
-            IfErr result (λ e. from_here self.new after ≡ from_here self.old before)) }
+        ensures goes_on { GoesOnOn V.Volume self.old volume.old self.new volume.new }
+        ensures gives { GivesHereOn V.Volume self.old volume.old self.new volume.new result }
         ensures entry { IfOk result (λ o. IfSome o (λ p. IsEntry p.1)) }
         ensures fewer { IfOk result (λ o. IfSome o (λ p. most_left self.new < most_left self.old)) }
         ensures refused { FailsOrWantsMemoryOn V.Volume result }
