@@ -118,7 +118,7 @@ FailsOrWantsMemoryOn g result = g.told → IfErr result (λ e. (e ≡ Failed) �
 -- A log that was opened from a position on: what it stands for in the files.
 pub record OpensOn {V : Type 0} (g : Ghosts V) (from : Position) (old : V) (log : Log) (new : V) : Type 0 where
   -- the log's files stand as its last call left them
-  pub open : IsOpenOn g log new
+  pub ready : IsOpenOn g log new
   -- the walk from the log's first file finds what the files from that of the position on were found to be
   pub found : g.told → log_of (first_file_of log) (g.now new) ≡ started from (g.now old)
   -- a crash leaves just the forced entries, where one before left the files from that one on as they read
@@ -143,7 +143,7 @@ pub record ForcesOn {V : Type 0} (g : Ghosts V) (log : Log) (old : V) (after : L
 -- What a call that adds to a log leaves of it on the volume.
 pub record LeavesOn {V T E : Type 0} (g : Ghosts V) (log : Log) (old : V) (after : Log) (new : V) (result : Result T E) : Type 0 where
   -- where it was answered, the log's files stand as it left them
-  pub open : OnOk result (IsOpenOn g after new)
+  pub ready : OnOk result (IsOpenOn g after new)
   -- where it was answered, a crash leaves just the forced entries, if one before did
   pub kept : OnOk result (KeepsForcedOn g log old after new)
   -- answered or failed, a crash leaves just the entries that were forced before, or all that there were, if one before left just the former

@@ -108,17 +108,20 @@ place_for log e = position_of (write_position_of log) (length_of e) (file_size_o
 abbrev pub force_position_with : Log → Entry → Position
 force_position_with log e = if forces_earlier log e then write_position_of log else force_position_of log
 
+-- the entries that still aren't forced, where room is made for an entry
+abbrev pub unforced_with : Log → Entry → List Entry
+unforced_with log e = if forces_earlier log e then [] else unforced log
+
 -- the buffer and the file have room for an entry
 abbrev pub HasRoomFor : Entry → Log → Type 0
 HasRoomFor e log =
     (log.buffered + length_of e ≤ length log.buffer.items) × (log.forced_bytes + log.buffered + length_of e ≤ log.file_size)
 
 -- A log that was just opened: where it begins, its sizes in bytes, and that all its entries are forced.
-pub record IsFresh (first file_size buffer_size : ℕ) (log : Log) : Type 0 where
-  pub first : first_file_of log ≡ first
+pub record IsFresh (file file_size buffer_size : ℕ) (log : Log) : Type 0 where
+  pub first : first_file_of log ≡ file
   pub sizes : HasSizes file_size buffer_size log
   pub force : force_position_of log ≡ write_position_of log
-  pub waiting : unforced log ≡ []
   pub count : waiting_bytes log ≡ 0
 
 -- What an append makes of a log's positions and sizes, and of the entries that wait.
@@ -147,14 +150,13 @@ pub record MakesRoom {T E : Type 0} (entry : Entry) (old new : Log) (result : Re
   -- the entry is placed where the log ends
   pub write : OnOk result (place_for old entry ≡ Some (write_position_of new))
   pub force : OnOk result (force_position_of new ≡ force_position_with old entry)
-  pub waiting : OnOk result (unforced new ≡ (if forces_earlier old entry then [] else unforced old))
   pub sizes : KeepsSizes old new
   pub failed : OnErr result (StandsStill old new ⊎ IsForced old new)
 
 -- What going on in the next file makes of a log as a value.
 pub record SwitchesFile {T E : Type 0} (old new : Log) (result : Result T E) : Type 0 where
   pub number : OnOk result (current_file_of new ≡ current_file_of old + 1)
-  pub start : OnOk result (write_position_of new ≡ position (current_file_of old + 1) 0)
+  pub start : OnOk result (new.forced_bytes ≡ 0)
   pub force : OnOk result (force_position_of new ≡ write_position_of old)
   pub count : OnOk result (waiting_bytes new ≡ 0)
   pub sizes : KeepsSizes old new

@@ -67,7 +67,7 @@ impl Log {
     ghost use Rattle.tt_log.specs.Calls.{CrashLeavesEmptyOn, CrashLeavesNoEntryOn, KeepsForcedOn, KeepsForcedSinceOn, KeepsLogsOn, HasLogsOn};
     ghost use Rattle.tt_log.specs.Calls.{ForcesAllOn, SwitchesFileOn, MakesRoomOn, AddsFileOn, ChangesLogsOn, ChangesTwoLogsOn, HasNoLogAboveOn, VisitsLogOn};
     ghost use Rattle.tt_log.specs.Log.{IsFresh, Appends, Forces, MakesRoom, SwitchesFile, BeginsFrom, HasRoomFor, Puts, IsWhole};
-    ghost use Rattle.tt_log.specs.Log.{current_file_of, file_size_of, first_file_of, force_position_of, forces_earlier, has_unforced, place_for, write_position_of};
+    ghost use Rattle.tt_log.specs.Log.{current_file_of, file_size_of, first_file_of, force_position_of, forces_earlier, has_unforced, place_for, unforced, unforced_with, write_position_of};
     ghost use Rattle.tt_log.specs.Placement.{all_placed};
     ghost use Rattle.tt_log.specs.Scan.{Scans, first_position_of};
     ghost use Rattle.tt_log.specs.Walk.{is_switch};
@@ -105,6 +105,7 @@ impl Log {
         requires buffer_size { (buffer_least ≤ log_buf_size) × (log_buf_size ≤ buffer_most) }
         ensures opened { IfOk result (λ log. OpensOn V.Volume from volume.old log volume.new) }
         ensures fresh { IfOk result (λ log. IsFresh from.file log_file_size log_buf_size log) }
+        ensures empty { IfOk result (λ log. unforced log ≡ []) }
         ensures refused { IfErr result (λ e. OpeningRefusedOn V.Volume from volume.old e) }
         ensures keeps { KeepsFiles V.Volume volume.old volume.new }
         ensures cause { RoseWhereOn V.Volume volume.old volume.new (IsErrOf result LogRefusal.Failed) }
@@ -134,6 +135,7 @@ impl Log {
         ensures opened { IfOk result (λ log. OpensOn V.Volume from volume.old log volume.new) }
         ensures taken { VisitsLogOn V.Volume T.EntryVisitor from.file volume.old visitor.old visitor.new result }
         ensures fresh { IfOk result (λ log. IsFresh from.file log_file_size log_buf_size log) }
+        ensures empty { IfOk result (λ log. unforced log ≡ []) }
         ensures refused { IfErr result (λ e. OpeningRefusedOn V.Volume from volume.old e) }
         ensures keeps { KeepsFiles V.Volume volume.old volume.new }
         ensures cause { RoseWhereOn V.Volume volume.old volume.new (IsErrOf result LogRefusal.Failed) }
@@ -276,6 +278,7 @@ impl Log {
         requires place { IsSome (place_for self.old entry.now) }
         requires open { IsOpenOn V.Volume self.old volume.old }
         ensures made { MakesRoom entry.now self.old self.new result }
+        ensures waiting { OnOk result (unforced self.new ≡ unforced_with self.old entry.now) }
         ensures found { OnOk result (MakesRoomOn V.Volume self.old entry.now volume.old volume.new) }
         ensures files { OnOk result (AddsFileOn V.Volume (current_file_of self.new) volume.old volume.new) }
         ensures leaves { LeavesOn V.Volume self.old volume.old self.new volume.new result }
