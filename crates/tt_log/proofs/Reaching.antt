@@ -20,7 +20,7 @@ use Rattle.tt_log.specs.declared.refusal.LogRefusal.{LogRefusal}
 use Rattle.tt_log.specs.Walk.{Part, before}
 use Rattle.tt_log.specs.Batch.{rest_read, IsHeaded, IsRefused, IsBatch, IsPlain, GateSays}
 use Rattle.tt_log.specs.Opening.{starts_at}
-use Rattle.tt_log.specs.File.{HasEnd, HasRead, IsReached, Closes, ClosesIfEnded}
+use Rattle.tt_log.specs.File.{HasEnd, HasRead, IsBehind, IsReached, Closes, ClosesIfEnded}
 use Rattle.tt_log.proofs.Sums.{total_more}
 use Rattle.tt_log.proofs.Skips.{starts_both}
 use Rattle.tt_disk.specs.Volume.{File}
@@ -61,15 +61,14 @@ pub before_twice : (es fs : List Entry) (part : Part) → before es (before fs p
 before_twice es fs (Ok part) = ap (λ (l : List Entry). Ok (l, part.1)) (sym (append_assoc es fs part.0))
 before_twice es fs (Err e) = refl
 
-pub reached_more : (wanted n : ℕ) (file : File) (at next : FileCursor) (body : List ℕ) → IsReached wanted n file at → IsPlain n at.gate at.offset file body → gate_in at.gate file ≡ Ok (Full (length body)) → next.gate ≡ at.gate + 9 + length body → next.offset ≡ at.offset + length body
-    → ((es : List Entry) → entries_of body ≡ Some es → total es ≡ length body → next.starts ≡ (at.starts || starts_at wanted at.offset es)) → IsReached wanted n file next
-reached_more wanted n file at next body r p says gate offset starts = record {
+pub reached_more : (wanted n : ℕ) (file : File) (at next : FileCursor) (body : List ℕ) → IsReached wanted n file at → IsPlain n at.gate at.offset file body → gate_in at.gate file ≡ Ok (Full (length body)) → IsBehind wanted at body next → IsReached wanted n file next
+reached_more wanted n file at next body r p says b = record {
   es = r.es ++ p.es;
-  gate = subst (λ (k : ℕ). IsGate file k) (sym gate) (next_gate file at.gate (length body) r.gate says);
+  gate = subst (λ (k : ℕ). IsGate file k) (sym b.gate) (next_gate file at.gate (length body) r.gate says);
   is = r.is ∙ ap (before r.es) p.goes ∙ before_twice r.es p.es (rest_read n (at.gate + 9 + length body) (at.offset + length body) file)
-      ∙ ap (λ (k : ℕ). before (r.es ++ p.es) (rest_read n k (at.offset + length body) file)) (sym gate) ∙ ap (λ (k : ℕ). before (r.es ++ p.es) (rest_read n next.gate k file)) (sym offset);
-  long = total_more r.es p.es ∙ omega (arith, r.long, p.long, offset);
-  starts = starts p.es p.is p.long ∙ ap (λ (b : Bool). b || starts_at wanted at.offset p.es) r.starts
+      ∙ ap (λ (k : ℕ). before (r.es ++ p.es) (rest_read n k (at.offset + length body) file)) (sym b.gate) ∙ ap (λ (k : ℕ). before (r.es ++ p.es) (rest_read n next.gate k file)) (sym b.offset);
+  long = total_more r.es p.es ∙ omega (arith, r.long, p.long, b.offset);
+  starts = b.starts p.es p.is p.long ∙ ap (λ (c : Bool). c || starts_at wanted at.offset p.es) r.starts
       ∙ ap (λ (k : ℕ). starts_at wanted 0 r.es || starts_at wanted k p.es) (let e : at.offset ≡ 0 + total r.es = omega (arith, r.long) in e) ∙ sym (starts_both wanted 0 r.es p.es);
 }
 

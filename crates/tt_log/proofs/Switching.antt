@@ -75,8 +75,8 @@ pub record Moved (log moved : Log) (old next : Files) (may may' : Outcomes) : Ty
 switches_next : (m : ℕ) → m < 999999 → switches m (Switch (m + 1) ∷ []) ≡ true
 switches_next m below = ap (λ (b : Bool). b && nat_lt m 999999) (eq-eqb (m + 1) (m + 1) refl) ∙ lt-ltb m 999999 below
 
-pub header_made : (n : ℕ) (file : File) (header : List ℕ) → gated file ≡ Ok (header, []) → header ≡ log_header n → gated file ≡ Ok (log_header n, [])
-header_made n file header made head = subst (λ (l : List ℕ). gated file ≡ Ok (l, [])) head made
+pub header_made : (n : ℕ) (r : Result (List ℕ × List (List ℕ)) GateRefusal) (header : List ℕ) → r ≡ Ok (header, []) → header ≡ log_header n → r ≡ Ok (log_header n, [])
+header_made n r header made head = made ∙ ap (λ (l : List ℕ). Ok (l, [])) head
 
 -- an empty file stands behind file m
 pub record NextMade (first m : ℕ) (now : Files) (may : Outcomes) : Type 0 where

@@ -27,7 +27,7 @@ returns-clause-leaves g c =
     let room = c.in_ok-make_room.ensures.leaves in
     record {
       ready = λ told. still_open c.make_room.new.self c.put.new.self c.args.entry.now _ _ c.requires.plain (room.ready told) c.put.ensures;
-      kept = λ told kept. kept_at c.make_room.new.self.first_file c.put.new.self.first_file _ _ c.put.ensures.first (room.kept told kept);
+      kept = λ told kept. kept_at c.make_room.new.self.first_file c.put.new.self.first_file _ (g.V.Volume.may c.make_room.new.volume) c.put.ensures.first (room.kept told kept);
       crash = room.crash;
       order = room.order;
     }

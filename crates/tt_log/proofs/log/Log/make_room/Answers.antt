@@ -1,7 +1,7 @@
-use Rattle.std.proofs.Common.{arith, sym, subst, ◌≤◌, ◌+◌, ◌<◌, length}
+use Rattle.std.proofs.Common.{arith, sym, subst, ℕ, ◌≤◌, ◌+◌, ◌<◌, length}
 use Rattle.tt_record.specs.Entry.{length_of}
 use Rattle.tt_log.proofs.Adding.{file_forces, buffer_forces, nothing_waits}
-use Rattle.tt_log.proofs.Presence.{kept_there, next_added, open_there}
+use Rattle.tt_log.proofs.Presence.{kept_there, next_added, none_added, open_there}
 use Rattle.tt_log.specs.Log.{AddsFile}
 use Rattle.tt_log.proofs.log.Log.make_room.Goals as goal
 
@@ -24,7 +24,7 @@ returns-then-self-length-clause-files g c told =
     let now = g.V.Volume.now c.switch_file.new.volume in
     let s = c.in_ok-switch_file.ensures.switched in
     let low : new.first_file ≤ n = omega (arith, s.sizes.0, log.ordered) in
-    let at = λ k. open_there new now (g.V.Volume.may c.switch_file.new.volume) k (c.in_ok-switch_file.ensures.leaves.ready told) in
+    let at = λ (k : ℕ). open_there new now (g.V.Volume.may c.switch_file.new.volume) k (c.in_ok-switch_file.ensures.leaves.ready told) in
     subst (λ k. AddsFile k was now) (sym s.number)
     (next_added n was now _ _ (c.switch_file.ensures.others told) (open_there log was _ n (c.requires.open told) log.ordered (omega arith))
     (at n low (omega (arith, s.number))) (at (n + 1) (omega (arith, low)) (omega (arith, s.number))))

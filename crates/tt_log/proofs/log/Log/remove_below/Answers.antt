@@ -95,10 +95,17 @@ returns-clause-there g c told k low high =
 pub returns-clause-removes : goal.returns-clause-removes
 returns-clause-removes g c =
     let log = c.args.self.now in
+    let second = c.remove_logs-2.ensures.others in
+    let out = λ (k : ℕ) (low : k ≤ log.current_file). out_low (log.current_file + 1) log_names_end k (omega (arith, low)) in
     record {
-      below = on_ok_weaker c.remove_logs-2.result (λ _ told k low high.
-          (c.remove_logs-2.ensures.others told).reads (LogFile k) (out_low (log.current_file + 1) log_names_end k (omega (arith, c.requires.file, high))) ∙ c.in_ok-remove_logs.ensures.gone told k low high) c.remove_logs-2.ensures.gone;
+      below = on_ok_weaker c.remove_logs-2.result (λ _ told k low high. (second told).reads (LogFile k) (out k (omega (arith, c.requires.file, high))) ∙ c.in_ok-remove_logs.ensures.gone told k low high) c.remove_logs-2.ensures.gone;
       above = on_ok_weaker c.remove_logs-2.result (λ gone told k low high. gone told k (omega (arith, low)) high) c.remove_logs-2.ensures.gone;
-      ascending = search rules;
+      ascending = λ told.
+          let first = c.remove_logs.ensures.ascending told in
+          record {
+            at = first.at;
+            gone = λ k low under high. (second told).reads (LogFile k) (out k (omega (arith, c.requires.file, high))) ∙ first.gone k low under high;
+            above = λ k over high. (second told).reads (LogFile k) (out k (omega (arith, c.requires.file, high))) ∙ first.above k over high;
+          };
       others = search rules;
     }

@@ -29,7 +29,7 @@ module _ (g : Over) (c : After-make g) (told : g.V.Volume.told) where
       }
 
   all_made : CrashLeavesForced c.args.self.now (g.V.Volume.now c.args.volume.now) (g.V.Volume.may c.args.volume.now) → CrashLeavesAll c.args.self.now (g.V.Volume.now c.args.volume.now) (g.V.Volume.may c.make.new.volume)
-  all_made kept = leaves_all c.args.self.now _ _ _ c.write_out.new.self.first_file _ c.in_ok-write_out.ensures.forced.forced.sizes.0 (c.requires.open told) moved.same (λ files left. inl ((moved.around kept).kept files left))
+  all_made kept = leaves_all c.args.self.now _ _ (g.V.Volume.may c.make.new.volume) c.write_out.new.self.first_file _ c.in_ok-write_out.ensures.forced.forced.sizes.0 (c.requires.open told) moved.same (λ files left. inl ((moved.around kept).kept files left))
 
 -- once the Switch is appended
 module _ (g : Over) (c : After-append_batch g) (told : g.V.Volume.told)
@@ -50,7 +50,7 @@ module _ (g : Over) (c : After-append_batch g) (told : g.V.Volume.told)
   }
 
   all_appended : CrashLeavesForced c.args.self.now (g.V.Volume.now c.args.volume.now) (g.V.Volume.may c.args.volume.now) → CrashLeavesAll c.args.self.now (g.V.Volume.now c.args.volume.now) (g.V.Volume.may c.append_batch.new.volume)
-  all_appended kept = leaves_all c.args.self.now _ _ _ c.write_out.new.self.first_file _ c.in_ok-write_out.ensures.forced.forced.sizes.0 (c.requires.open told) r.same
+  all_appended kept = leaves_all c.args.self.now _ _ (g.V.Volume.may c.append_batch.new.volume) c.write_out.new.self.first_file _ c.in_ok-write_out.ensures.forced.forced.sizes.0 (c.requires.open told) r.same
       (switched_left c.write_out.new.self.first_file m c.write_out.new.self.forced_bytes c.switch_to-switch.result _ _ _ _ (r.around kept) next batch (body_is_read _ _ c.switch_to-switch.ensures.body))
 
   two : OnlyTwo (LogFile c.args.self.now.current_file) (LogFile (c.args.self.now.current_file + 1)) (g.V.Volume.now c.args.volume.now) (g.V.Volume.now c.append_batch.new.volume) (g.V.Volume.may c.args.volume.now) (g.V.Volume.may c.append_batch.new.volume)
