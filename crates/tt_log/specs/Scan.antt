@@ -101,6 +101,11 @@ abbrev pub given : Option (Position × Entry) → List (Position × Entry) → L
 given None rest = []
 given (Some p) rest = p ∷ rest
 
+-- what a step over one entry gives, in front of the rest
+abbrev pub with_given : Option (Position × Entry) → List (Position × Entry) → List (Position × Entry)
+with_given None rest = rest
+with_given (Some p) rest = p ∷ rest
+
 -- a bound on how much can still be read
 abbrev pub most_left : Scan → ℕ
 most_left scan = (log_files_end - scan.file) * LONGEST_FILE + (LONGEST_FILE - scan.gate) + (length scan.body.items - scan.at)
@@ -126,7 +131,7 @@ pub record TakesAhead (old new : Scan) (files : Files) (result : Result (Positio
 pub record TakesHere (old new : Scan) (files : Files) (result : Result (Option (Position × Entry)) LogRefusal) : Type 0 where
   pub going : IsGoing new files
   pub end : (walk_end (ahead new files)).file ≡ (walk_end (ahead old files)).file
-  pub gives : IfOk result (λ o. from_here old files ≡ given o (from_here new files))
+  pub gives : IfOk result (λ o. from_here old files ≡ with_given o (from_here new files))
   pub refused : IfErr result (λ e. e ≡ NoMemory)
 
 -- What was answered was the first of what was to give; after a refusal all of it is still to give.

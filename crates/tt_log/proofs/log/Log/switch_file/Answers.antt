@@ -113,7 +113,7 @@ returns-clause-leaves g c =
       ready = λ told.
           let o = c.in_ok-write_out.ensures.leaves.ready told in
           let only = c.append_batch.ensures.others told in
-          let apart = λ same. apart_next c.in_ok-file.file.name (log.current_file + 1) log.current_file c.in_ok-file.ensures.fresh.0 (λ eq. omega (arith, eq)) (same ∙ log.named) in
+          let apart = λ (same : c.in_ok-file.file.name ≡ log.file.name). apart_next c.in_ok-file.file.name (log.current_file + 1) log.current_file c.in_ok-file.ensures.fresh.0 (λ eq. omega (arith, eq)) (same ∙ log.named) in
           let ends = switched_end _ _ _ (r told).found in
           record {
             gate = ready_same c.in_ok-file.file _ _ _ _ (only.reads c.in_ok-file.file.name apart) (only.crash c.in_ok-file.file.name apart) (c.in_ok-file.ensures.ready told);
