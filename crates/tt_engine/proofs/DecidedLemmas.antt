@@ -8,7 +8,7 @@ use Rattle.tt_value.specs.declared.reply.Reply.TheVariants.{Refused as RefusedSo
 use Rattle.tt_record.specs.declared.entry.Entry.{Entry}
 use Rattle.tt_record.specs.Entry.{IsEntry, length_of}
 use Rattle.tt_record.specs.Place.{position_of}
-use Rattle.tt_log.specs.Walk.{Files, log_of}
+use Rattle.tt_log.specs.Walk.{log_of}
 use Rattle.tt_model.specs.Entries.{is_switch}
 use Rattle.tt_log.specs.Log.{IsOpen, CrashLeavesForced, CrashLeavesLog}
 use Rattle.tt_model.specs.Opened.{Opened}
@@ -31,6 +31,7 @@ use Rattle.tt_engine.specs.RepresentsLaws.{behind_found}
 use Rattle.tt_engine.specs.Prefixes.{IsBehindFound, LeavesOpening, LogsAreSettled, OpensForced}
 use Rattle.tt_engine.specs.Request.{Answers, answer, takes_memory}
 use Rattle.tt_disk.specs.declared.volume.Volume.{Ghosts}
+use Rattle.tt_disk.specs.Volume.{Files}
 
 -- ---- a line
 

@@ -6,7 +6,6 @@ use Rattle.tt_record.specs.declared.entry.Entry.TheVariants.{Mark}
 use Rattle.tt_record.specs.Entry.{length_of}
 use Rattle.tt_record.specs.Place.{next_position, position}
 use Rattle.tt_set.specs.declared.settings.Settings.{Settings}
-use Rattle.tt_log.specs.Walk.{Files}
 use Rattle.tt_model.specs.Opened.{Opened}
 use Rattle.tt_model.specs.Run.{begun, opened}
 use Rattle.tt_model.specs.State.{State, trail, with_entry, write_position}
@@ -15,6 +14,7 @@ use Rattle.tt_engine.specs.Prefixes.{IsSinceOpening, IsStill}
 use Rattle.tt_journal.specs.Onward.{IsOnward}
 use Rattle.tt_engine.specs.Starts.{are_there, begun_over}
 use Rattle.tt_model.proofs.Theorems.{forced_never_falls}
+use Rattle.tt_disk.specs.Volume.{Files}
 
 place_onward : (end : Position) (n size : ℕ) → end.file ≤ (next_position end n size).file
 place_onward end n size = by (nat_le (end.offset + n) size)

@@ -7,8 +7,8 @@ use Rattle.tt_record.specs.declared.entry.Entry.TheVariants.{Mark}
 use Rattle.tt_set.specs.declared.settings.Settings.{Settings}
 use Rattle.tt_log.specs.declared.log.Log.{Log}
 use Rattle.tt_log.specs.declared.refusal.LogRefusal.{LogRefusal}
-use Rattle.tt_log.specs.Walk.{Files, LogContents as Read, log_of, with_more}
-use Rattle.tt_disk.specs.Volume.{Keeps}
+use Rattle.tt_log.specs.Walk.{LogContents as Read, log_of, with_more}
+use Rattle.tt_disk.specs.Volume.{Keeps, Files}
 use Rattle.tt_log.specs.Log.{IsOpen, CrashLeavesForced, CrashLeavesLog, entries_in, forced_of, unforced, write_position_of, first_file_of, force_position_of, file_size_of, buffer_size_of}
 use Rattle.tt_model.specs.Trail.{Trail, Placed, oldest, trail_end}
 use Rattle.tt_model.specs.Committed.{Cells, committed, is_full, no_cells}

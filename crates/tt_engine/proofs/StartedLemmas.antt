@@ -1,7 +1,7 @@
 -- What opening came to, put together from its calls.
 use Rattle.std.proofs.Common.{◌≡◌, ◌∙◌, ℕ, Option, None, Result, Ok, Err, sym, ap, subst}
 use Rattle.std.specs.Prelude.{IfErr, IfOk, IsSome, OnOk, length}
-use Rattle.tt_disk.specs.Volume.{Keeps}
+use Rattle.tt_disk.specs.Volume.{Keeps, Files}
 use Rattle.tt_disk.specs.Laws.{keeps_then_keeps}
 use Rattle.tt_value.specs.declared.position.Position.{Position}
 use Rattle.tt_record.specs.Entry.{length_of}
@@ -9,7 +9,7 @@ use Rattle.tt_record.specs.Place.{position_of}
 use Rattle.tt_record.specs.declared.entry.Entry.TheVariants.{Mark}
 use Rattle.tt_set.specs.declared.settings.Settings.{Settings}
 use Rattle.tt_log.specs.declared.log.Log.{Log}
-use Rattle.tt_log.specs.Walk.{Files, log_of}
+use Rattle.tt_log.specs.Walk.{log_of}
 use Rattle.tt_log.specs.Log.{IsOpen, CrashLeavesForced, CrashLeavesLog, write_position_of, file_size_of}
 use Rattle.tt_model.specs.Opened.{Opened}
 use Rattle.tt_model.specs.Run.{opened}

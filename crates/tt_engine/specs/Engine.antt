@@ -6,7 +6,6 @@ use Rattle.tt_value.specs.declared.reply.Reply.{Reply}
 use Rattle.tt_value.specs.declared.value.Cell.TheVariants.{Empty, Full}
 use Rattle.tt_record.specs.declared.entry.Entry.{Entry}
 use Rattle.tt_record.specs.declared.entry.Entry.TheVariants.{Change}
-use Rattle.tt_log.specs.Walk.{Files}
 use Rattle.tt_model.specs.Committed.{changed_by, is_full}
 use Rattle.tt_model.specs.Live.{live, touched}
 use Rattle.tt_model.specs.Steady.{IsGrown}
@@ -21,6 +20,7 @@ use Rattle.tt_journal.specs.Journal.{Breaks, Outcomes, Writes, listed}
 use Rattle.tt_log.specs.Log.{IsOpen, CrashLeavesForced}
 use Rattle.tt_engine.specs.declared.rows.Rows.{Rows}
 use Rattle.tt_disk.specs.declared.volume.Failed.{Failed}
+use Rattle.tt_disk.specs.Volume.{Files}
 use Rattle.tt_recover.specs.Opening.{opened_from}
 use Rattle.tt_record.specs.Place.{position}
 use Rattle.tt_journal.specs.LogTrail.{HasTrail, IsQuiet}

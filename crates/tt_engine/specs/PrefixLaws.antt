@@ -2,10 +2,10 @@
 use Rattle.std.proofs.Common.{◌≡◌, ◌≤◌, ◌-◌, ◌∙◌, ℕ, Bool, true, false, List, [], ◌∷◌, ◌++◌, length, drop, map, Option, Some, None, if◌then◌else◌, refl, sym, ap, ap₂, subst, length-append, arith}
 use Rattle.std.proofs.lemmas.List.{drop-append-le}
 use Rattle.tt_disk.specs.declared.volume.Name.{Name}
+use Rattle.tt_disk.specs.Volume.{Files}
 use Rattle.tt_value.specs.declared.position.Position.{Position}
 use Rattle.tt_value.specs.declared.reply.Hold.{Hold}
 use Rattle.tt_record.specs.Place.{position}
-use Rattle.tt_log.specs.Walk.{Files}
 use Rattle.tt_model.specs.Trail.{Trail, oldest, position_le, position_lt, since}
 use Rattle.tt_model.specs.Committed.{Cells, committed, no_cells}
 use Rattle.tt_model.specs.Live.{next_number}

@@ -1,7 +1,7 @@
 -- What opening finds after a crash: the tables, entries and positions behind a prefix of a state's trail.
 use Rattle.std.specs.Prelude.{◌≡◌, ◌≤◌, ℕ, List, Option, Some, None, Result, Ok, Err, length}
 use Rattle.tt_disk.specs.declared.volume.Name.{Name}
-use Rattle.tt_log.specs.Walk.{Files}
+use Rattle.tt_disk.specs.Volume.{Files}
 use Rattle.tt_log.specs.declared.refusal.LogRefusal.{LogRefusal}
 use Rattle.tt_log.specs.Log.{MayLeave}
 use Rattle.tt_model.specs.Opened.{Opened}

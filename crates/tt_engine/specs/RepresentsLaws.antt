@@ -8,7 +8,7 @@ use Rattle.tt_value.specs.declared.reply.Reply.TheVariants.{Refused as RefusedSo
 use Rattle.tt_record.specs.declared.entry.Entry.{Entry}
 use Rattle.tt_record.specs.Entry.{IsEntry, length_of}
 use Rattle.tt_record.specs.Place.{position_of}
-use Rattle.tt_log.specs.Walk.{Files, log_of}
+use Rattle.tt_log.specs.Walk.{log_of}
 use Rattle.tt_model.specs.Entries.{is_switch}
 use Rattle.tt_log.specs.Log.{IsOpen, CrashLeavesForced, CrashLeavesLog, first_file_of}
 use Rattle.tt_model.specs.Opened.{Opened}
@@ -29,6 +29,7 @@ use Rattle.tt_engine.specs.OpeningLaws.{reads_settled}
 use Rattle.tt_engine.specs.PrefixLaws.{prefix_opens, stands_for}
 use Rattle.tt_engine.specs.Prefixes.{IsBehindFound, LeavesOpening, LogsAreSettled, OpensForced}
 use Rattle.tt_engine.specs.Request.{Answers, answer, takes_memory}
+use Rattle.tt_disk.specs.Volume.{Files}
 
 -- The engine is behind what was found.
 pub behind_found : (m : Memory) (s : State) → InMemory m s → IsBehindFound s

@@ -1,12 +1,12 @@
 -- What entries and forces make of a log and its volume: the log stands for the state behind them; or a call failed on the way there.
 use Rattle.std.specs.Prelude.{◌≡◌, ℕ, Bool, List, [], ◌∷◌, map, true, Option, Some, None, Result, OnOk, OnErr}
 use Rattle.tt_disk.specs.declared.volume.Name.{Name}
+use Rattle.tt_disk.specs.Volume.{Files}
 use Rattle.tt_disk.specs.declared.volume.Failed.{Failed}
 use Rattle.tt_value.specs.declared.position.Position.{Position}
 use Rattle.tt_record.specs.declared.entry.Entry.{Entry}
 use Rattle.tt_record.specs.Entry.{length_of}
 use Rattle.tt_log.specs.declared.log.Log.{Log}
-use Rattle.tt_log.specs.Walk.{Files}
 use Rattle.tt_log.specs.Log.{IsOpen, CrashLeavesForced, write_position_of, file_size_of}
 use Rattle.tt_model.specs.Entries.{IsPlain}
 use Rattle.tt_model.specs.State.{State, lengths_fit, write_position}

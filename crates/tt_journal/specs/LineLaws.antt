@@ -5,7 +5,6 @@ use Rattle.tt_parse.specs.declared.command.Command.{Command}
 use Rattle.tt_record.specs.Entry.{length_of}
 use Rattle.tt_log.specs.declared.log.Log.{Log}
 use Rattle.tt_log.specs.Log.{write_position_of, file_size_of}
-use Rattle.tt_log.specs.Walk.{Files}
 use Rattle.tt_model.specs.Run.{ended}
 use Rattle.tt_model.specs.Entries.{IsPlain}
 use Rattle.tt_model.specs.State.{State, lengths_fit}
@@ -17,6 +16,7 @@ use Rattle.tt_journal.specs.SameLaws.{same_is_onward, same_is_quiet, same_prefix
 use Rattle.tt_journal.specs.Journal.{Breaks, CanFollow, Outcomes, Writes}
 use Rattle.tt_model.proofs.Theorems.{lines_are_works}
 use Rattle.tt_disk.specs.declared.volume.Volume.{Ghosts}
+use Rattle.tt_disk.specs.Volume.{Files}
 
 -- Writes to a state are writes to each that has the same log; and a failed call on the way to it is one on the way to that.
 pub writes_same : {V : Type 0} (g : Ghosts V) (log : Log) (old : V) (s : State) (log' : Log) (new : V) (b a : State) → SameLog b a → Writes g log old s log' new a → Writes g log old s log' new b

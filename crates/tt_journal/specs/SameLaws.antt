@@ -1,12 +1,12 @@
 -- What is said of a state's log is so of each state that has the same.
 use Rattle.std.proofs.Common.{◌≡◌, ℕ, sym, subst}
 use Rattle.tt_log.specs.declared.log.Log.{Log}
-use Rattle.tt_log.specs.Walk.{Files}
 use Rattle.tt_model.specs.State.{State}
 use Rattle.tt_model.specs.Works.{SameLog}
 use Rattle.tt_journal.specs.LogTrail.{HasEnds, HasTrail, IsQuiet, LeavesPrefix}
 use Rattle.tt_journal.specs.Onward.{IsOnward}
 use Rattle.tt_journal.specs.Journal.{Outcomes}
+use Rattle.tt_disk.specs.Volume.{Files}
 
 -- one state's log, and what another keeps beside it
 abbrev laid : State → State → State

@@ -5,7 +5,6 @@ use Rattle.tt_record.specs.declared.entry.Entry.{Entry}
 use Rattle.tt_record.specs.Entry.{length_of}
 use Rattle.tt_record.specs.Place.{end_of, position_of, position}
 use Rattle.tt_log.specs.declared.log.Log.{Log}
-use Rattle.tt_log.specs.Walk.{Files}
 use Rattle.tt_model.specs.Forced.{forced_for, forces_earlier, unforced_length}
 use Rattle.tt_model.specs.Opened.{Opened}
 use Rattle.tt_model.specs.Trail.{Trail, oldest, trail_end}
@@ -19,6 +18,7 @@ use Rattle.tt_journal.specs.LogTrail.{FindsFirst, HasTrail, LeavesPrefix, end_of
 use Rattle.tt_journal.specs.Onward.{IsOnward, onward_then, quiet_parts, same_onward}
 use Rattle.tt_journal.specs.Journal.{Breaks, CanFollow, Outcomes, Writes, WrittenSoFar}
 use Rattle.tt_disk.specs.declared.volume.Volume.{Ghosts}
+use Rattle.tt_disk.specs.Volume.{Files}
 
 -- ---- one after another
 

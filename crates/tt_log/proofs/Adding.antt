@@ -10,12 +10,12 @@ use Rattle.tt_record.specs.BodyLaws.{body_is_read, entry_body, bodies_join}
 use Rattle.std.specs.Prelude.{IsOk}
 use Rattle.tt_gate.specs.GateFile.{IsReady}
 use Rattle.tt_log.specs.declared.log.Log.{Log}
-use Rattle.tt_log.specs.Walk.{Files, log_of, no_switch, is_switch}
+use Rattle.tt_log.specs.Walk.{log_of, no_switch, is_switch}
 use Rattle.tt_record.specs.Place.{position}
 use Rattle.tt_log.specs.Log.{IsOpen, Puts, unforced, or_none, begins_file, forces_earlier, walk_end}
-use Rattle.tt_log.proofs.Crash.{Outcomes}
 use Rattle.tt_log.proofs.Sums.{total_more}
 use Rattle.tt_log.proofs.Forcing.{no_entries}
+use Rattle.tt_disk.specs.Volume.{Files, Outcomes}
 
 pub none_left : (log : Log) → log.buffered ≡ 0 → unforced log ≡ []
 none_left log none = ap (λ (k : ℕ). or_none (entries_of (take k log.buffer.items))) none ∙ ap or_none no_entries

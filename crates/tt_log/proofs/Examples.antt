@@ -1,12 +1,13 @@
 -- The definitions on a few files.
 use Rattle.std.proofs.Common.{◌≡◌, ℕ, zero, suc, true, false, List, [], ◌∷◌, ◌++◌, Some, None, Ok, Err, refl}
 use Rattle.tt_disk.specs.declared.volume.Name.TheVariants.{Log}
+use Rattle.tt_disk.specs.Volume.{Files}
 use Rattle.tt_gate.specs.Gate.{length_at, whole_bodies}
 use Rattle.tt_value.specs.BigEndian.{big_endian, number}
 use Rattle.tt_record.specs.Read.{entry_at, entries_of, switch_at}
 use Rattle.tt_record.specs.declared.entry.Entry.TheVariants.{Mark}
 use Rattle.tt_log.specs.declared.refusal.LogRefusal.TheVariants.{Gap, BadBatch}
-use Rattle.tt_log.specs.Walk.{Files, file_read, log_header, walk}
+use Rattle.tt_log.specs.Walk.{file_read, log_header, walk}
 use Rattle.tt_record.specs.Place.{position}
 
 abbrev two_files : List ℕ → List ℕ → Files

@@ -1,6 +1,7 @@
 -- The walk from one file to the next.
 use Rattle.std.proofs.Common.{◌≡◌, inl, inr, ◌<◌, ◌≤◌, ◌+◌, ◌-◌, ℕ, suc, List, [], ◌++◌, Bool, true, false, Option, Result, Ok, Err, refl, sym, ap, ◌∙◌, subst, arith}
 use Rattle.tt_disk.specs.declared.volume.Name.TheVariants.{Log}
+use Rattle.tt_disk.specs.Volume.{Files, File}
 use Rattle.tt_value.specs.declared.position.Position.{Position}
 use Rattle.tt_record.specs.declared.entry.Entry.{Entry}
 use Rattle.tt_record.specs.Place.{position}
@@ -9,7 +10,7 @@ use Rattle.tt_log.specs.declared.file.FileEnd.{FileEnd}
 use Rattle.tt_log.specs.declared.opening.LogEnd.{LogEnd}
 use Rattle.tt_log.specs.declared.refusal.LogRefusal.{LogRefusal}
 use Rattle.tt_log.specs.declared.refusal.LogRefusal.TheVariants.{Gap}
-use Rattle.tt_log.specs.Walk.{Files, LogContents, file_read, placed, in_front, on_part, walk, log_of}
+use Rattle.tt_log.specs.Walk.{LogContents, file_read, placed, in_front, on_part, walk, log_of}
 use Rattle.tt_log.specs.Batch.{IsRefused}
 use Rattle.tt_log.specs.Opening.{has_place, where_place, started}
 use Rattle.tt_log.specs.File.{IsEnd, HasEnd, IsFileEnd, FoundEnd, IsFollowed}
@@ -61,13 +62,13 @@ gone_refused n k files e below g (inl failed) = inl failed
 gone_refused n k files e below g (inr (inl wanting)) = inr (inl wanting)
 gone_refused n k files e below g (inr (inr is)) = inr (inr (g.is ∙ ap (in_front g.front) (log_step k files below ∙ ap (λ p. on_part k p (log_of (k + 1) files)) is)))
 
-pub end_answered : (wanted n : ℕ) (file other : Option (List ℕ)) (r : Result FileEnd LogRefusal) (end : FileEnd) → IsFileEnd wanted (file_read n file) r → r ≡ Ok end → file ≡ other → HasEnd wanted (file_read n other) end
+pub end_answered : (wanted n : ℕ) (file other : File) (r : Result FileEnd LogRefusal) (end : FileEnd) → IsFileEnd wanted (file_read n file) r → r ≡ Ok end → file ≡ other → HasEnd wanted (file_read n other) end
 end_answered wanted n file other r end says is same =
     let P : Result FileEnd LogRefusal → Type 0 = λ q. IsFileEnd wanted (file_read n file) q in
     let h : HasEnd wanted (file_read n file) end = subst P is says in
     subst (λ o. HasEnd wanted (file_read n o) end) same h
 
-pub end_refused : (wanted n : ℕ) (file other : Option (List ℕ)) (r : Result FileEnd LogRefusal) (e : LogRefusal) → IsFileEnd wanted (file_read n file) r → r ≡ Err e → file ≡ other → IsRefused e (file_read n other)
+pub end_refused : (wanted n : ℕ) (file other : File) (r : Result FileEnd LogRefusal) (e : LogRefusal) → IsFileEnd wanted (file_read n file) r → r ≡ Err e → file ≡ other → IsRefused e (file_read n other)
 end_refused wanted n file other r e says is same =
     let P : Result FileEnd LogRefusal → Type 0 = λ q. IsFileEnd wanted (file_read n file) q in
     let h : IsRefused e (file_read n file) = subst P is says in

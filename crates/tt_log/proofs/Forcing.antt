@@ -1,10 +1,10 @@
 -- A batch of entries behind the last file of a log.
-use Rattle.std.proofs.Common.{◌≡◌, ◌≤◌, ◌+◌, ◌⊎◌, inl, inr, ℕ, List, [], ◌++◌, take, drop, refl, sym, ap, ◌∙◌, subst, true, arith, Option, Some, Result, Ok, Err}
+use Rattle.std.proofs.Common.{◌≡◌, ◌≤◌, ◌+◌, ◌⊎◌, inl, inr, ⊎_elim, ℕ, List, [], ◌++◌, take, drop, refl, sym, ap, ◌∙◌, subst, true, arith, Option, Some, Result, Ok, Err}
 use Rattle.std.specs.Prelude.{IsOk}
 use Rattle.std.proofs.lemmas.List.{append-nil}
 use Rattle.tt_disk.specs.declared.volume.Name.{Name}
 use Rattle.tt_disk.specs.declared.volume.Name.TheVariants.{Log as LogFile}
-use Rattle.tt_disk.specs.Volume.{IsSettled, bytes_of, OnlyAt}
+use Rattle.tt_disk.specs.Volume.{IsSettled, bytes_of, OnlyAt, Files, Outcomes, File}
 use Rattle.tt_gate.specs.declared.gate.GateFile.{GateFile}
 use Rattle.tt_gate.specs.Gate.{gated}
 use Rattle.tt_gate.specs.GateFile.{with_batch, staged_in, CrashLeavesFormerOrMore}
@@ -13,13 +13,13 @@ use Rattle.tt_value.specs.declared.position.Position.{Position}
 use Rattle.tt_record.specs.Read.{entries_of}
 use Rattle.tt_log.specs.Lengths.{total}
 use Rattle.tt_log.specs.declared.refusal.LogRefusal.{LogRefusal}
-use Rattle.tt_log.specs.Walk.{Files, LogContents, log_of, with_more, no_switch}
-use Rattle.tt_log.specs.Limits.{FILE_MOST}
+use Rattle.tt_log.specs.Walk.{LogContents, log_of, with_more, no_switch}
+use Rattle.tt_log.specs.Limits.{file_most}
 use Rattle.tt_record.specs.Place.{position}
-use Rattle.tt_log.specs.Log.{IsOpen, CrashLeavesLog, CrashLeavesLogOr, unforced, walk_end}
+use Rattle.tt_log.specs.Log.{IsOpen, CrashLeavesLog, MayLeave, unforced, walk_end}
 use Rattle.tt_log.specs.declared.log.Log.{Log}
 use Rattle.tt_record.specs.BodyLaws.{body_is_read}
-use Rattle.tt_log.proofs.Crash.{Outcomes, Around, more_in, left_same, left_more, all_left}
+use Rattle.tt_log.proofs.Crash.{Around, more_in, left_same, left_more, all_left}
 
 abbrev Standing : Type 0
 Standing = Result LogContents LogRefusal
@@ -55,62 +55,67 @@ unfolding entries_of
 no_entries = refl
 
 -- nothing is staged, so the batch is the body alone
-pub body_alone : (file : GateFile) (bytes : Option (List ℕ)) (body : List ℕ) → file.staged ≡ 0 → staged_in file bytes ++ body ≡ body
+pub body_alone : (file : GateFile) (bytes : File) (body : List ℕ) → file.staged ≡ 0 → staged_in file bytes ++ body ≡ body
 body_alone file bytes body none = ap (λ (k : ℕ). take k (drop (9 + file.gate) (bytes_of bytes)) ++ body) none
 
--- one call that appends a batch
-pub record Batch (m base : ℕ) (name : Name) (given body : List ℕ) (fs : List Entry) (old new : Files) (may may' : Outcomes) : Type 0 where
-  pub named : name ≡ LogFile m
-  pub alone : given ≡ body
-  pub entries : entries_of body ≡ Some fs
-  pub plain : no_switch fs ≡ true
-  pub room : base + total fs ≤ FILE_MOST
-  pub only : OnlyAt name old new may may'
-  pub crash : CrashLeavesFormerOrMore (may name) (gated (old name)) given (may' name)
+-- one call that appends a batch to log file m
+pub record Written (m : ℕ) (body : List ℕ) (old new : Files) (may may' : Outcomes) : Type 0 where
+  pub only : OnlyAt (LogFile m) old new may may'
+  pub crash : CrashLeavesFormerOrMore (may (LogFile m)) (gated (old (LogFile m))) body (may' (LogFile m))
 
--- the batch that an open log forces
-pub forcing : (log : Log) (now now' : Files) (may may' : Outcomes) (given : List ℕ) → IsOpen log now may → given ≡ take log.buffered log.buffer.items → OnlyAt log.file.name now now' may may'
-    → CrashLeavesFormerOrMore (may log.file.name) (gated (now log.file.name)) (staged_in log.file (now log.file.name) ++ given) (may' log.file.name)
-    → Batch log.current_file log.forced_bytes log.file.name (staged_in log.file (now log.file.name) ++ given) (take log.buffered log.buffer.items) (unforced log) now now' may may'
-forcing log now now' may may' given o is only crash = record {
-  named = log.named;
-  alone = body_alone log.file (now log.file.name) given o.fresh ∙ is;
-  entries = body_is_read _ _ o.body;
-  plain = o.plain;
-  room = omega (arith, o.long, log.offsets);
-  only = only;
-  crash = crash;
+-- the batch that an open log appends to its current file
+pub written : (log : Log) (old new : Files) (may may' : Outcomes) (body : List ℕ) → log.file.staged ≡ 0 → OnlyAt log.file.name old new may may'
+    → CrashLeavesFormerOrMore (may log.file.name) (gated (old log.file.name)) (staged_in log.file (old log.file.name) ++ body) (may' log.file.name) → Written log.current_file body old new may may'
+written log old new may may' body fresh only crash = record {
+  only = subst (λ n. OnlyAt n old new may may') log.named only;
+  crash = subst (λ n. CrashLeavesFormerOrMore (may n) (gated (old n)) body (may' n)) log.named
+      (subst (λ l. CrashLeavesFormerOrMore (may log.file.name) (gated (old log.file.name)) l (may' log.file.name)) (body_alone log.file (old log.file.name) body fresh) crash);
 }
 
--- what is found of an open log ends in its current file
-pub found_open : (first : ℕ) (log : Log) (now : Files) (may : Outcomes) → log.first_file ≡ first → IsOpen log now may → IsFound (log_of first now) log.current_file log.forced_bytes
-found_open first log now may same o = is_found (log_of first now) log.current_file log.forced_bytes (subst (λ k. IsOk (log_of k now)) same o.whole) (subst (λ k. walk_end (log_of k now) ≡ position log.current_file log.forced_bytes) same o.end)
+pub done : (log : Log) (old new : Files) (body : List ℕ) → log.file.staged ≡ 0 → gated (new log.file.name) ≡ with_batch (staged_in log.file (old log.file.name) ++ body) (gated (old log.file.name))
+    → gated (new (LogFile log.current_file)) ≡ with_batch body (gated (old (LogFile log.current_file)))
+done log old new body fresh is =
+    subst (λ n. gated (new n) ≡ with_batch body (gated (old n))) log.named (is ∙ ap (λ (l : List ℕ). with_batch l (gated (old log.file.name))) (body_alone log.file (old log.file.name) body fresh))
 
-pub forced_now : (first m base : ℕ) (name : Name) (given body : List ℕ) (fs : List Entry) (old new : Files) (may may' : Outcomes) → IsFound (log_of first old) m base → Batch m base name given body fs old new may may'
-    → gated (new name) ≡ with_batch given (gated (old name)) → log_of first new ≡ with_more fs (log_of first old)
-forced_now first m base name given body fs old new may may' f b done =
-    let reads = subst (λ n. (k : Name) → ¬ (k ≡ n) → new k ≡ old k) b.named b.only.reads in
-    more_in first m body fs old new f.found f.is f.at (λ j apart. reads (LogFile j) (λ same. let eq : j ≡ m = cc in apart eq))
-    (subst (λ n. gated (new n) ≡ with_batch body (gated (old n))) b.named (done ∙ ap (λ (l : List ℕ). with_batch l (gated (old name))) b.alone)) b.entries b.plain (omega (arith, b.room, f.offset))
-    ∙ ap (with_more fs) (sym f.is)
-
-pub forced_left : (first m base : ℕ) (name : Name) (given body : List ℕ) (fs : List Entry) (old new : Files) (may may' : Outcomes) → Around first m base old may → Batch m base name given body fs old new may may'
-    → CrashLeavesLogOr first (log_of first old) fs may'
-forced_left first m base name given body fs old new may may' a b files left =
-    by_case (subst (λ l. CrashLeavesFormerOrMore (may (LogFile m)) (gated (old (LogFile m))) l (may' (LogFile m))) b.alone (subst (λ n. CrashLeavesFormerOrMore (may n) (gated (old n)) given (may' n)) b.named b.crash) (files (LogFile m)) (left (LogFile m)))
+-- a crash leaves the log as it was, or the batch
+pub one_or_more : (first m base : ℕ) (body : List ℕ) (old new : Files) (may may' : Outcomes) → Around first m base old may → Written m body old new may may' → (files : Files) → MayLeave may' files
+    → (log_of first files ≡ log_of first old) ⊎ (gated (files (LogFile m)) ≡ with_batch body (gated (old (LogFile m))))
+one_or_more first m base body old new may may' a w files left = by_case (w.crash (files (LogFile m)) (left (LogFile m)))
   where
     others : (n : Name) → ¬ (n ≡ LogFile m) → may n (files n)
-    others n apart = b.only.crash n (λ same. apart (same ∙ b.named)) (files n) (left n)
+    others n apart = w.only.crash n apart (files n) (left n)
 
     by_case : may (LogFile m) (files (LogFile m)) ⊎ ((gated (files (LogFile m)) ≡ gated (old (LogFile m))) ⊎ (gated (files (LogFile m)) ≡ with_batch body (gated (old (LogFile m)))))
-        → (log_of first files ≡ log_of first old) ⊎ (log_of first files ≡ with_more fs (log_of first old))
+        → (log_of first files ≡ log_of first old) ⊎ (gated (files (LogFile m)) ≡ with_batch body (gated (old (LogFile m))))
     by_case (inl former) = inl (a.kept files (all_left m files may former others))
     by_case (inr (inl same)) = inl (left_same first m base old files may a others same)
-    by_case (inr (inr more)) = inr (left_more first m base body fs old files may a others more b.entries b.plain b.room)
+    by_case (inr (inr more)) = inr more
 
-pub forced_kept : (first m base : ℕ) (name : Name) (given body : List ℕ) (fs : List Entry) (old new : Files) (may may' : Outcomes) → Around first m base old may → Batch m base name given body fs old new may may'
-    → log_of first new ≡ with_more fs (log_of first old) → gated (new name) ≡ with_batch given (gated (old name)) → IsSettled name new may' → CrashLeavesLog first (log_of first new) may'
-forced_kept first m base name given body fs old new may may' a b now done settled files left =
-    left_more first m base body fs old files may a (λ n apart. b.only.crash n (λ same. apart (same ∙ b.named)) (files n) (left n))
-    (subst (λ n. gated (files n) ≡ with_batch body (gated (old n))) b.named (ap gated (settled (files name) (left name)) ∙ done ∙ ap (λ (l : List ℕ). with_batch l (gated (old name))) b.alone)) b.entries b.plain b.room
-    ∙ sym now
+-- the entries of a batch, behind so many bytes of others in their file
+pub record Batch (base : ℕ) (body : List ℕ) (fs : List Entry) : Type 0 where
+  pub entries : entries_of body ≡ Some fs
+  pub plain : no_switch fs ≡ true
+  pub room : base + total fs ≤ file_most
+
+-- the batch that an open log forces
+pub forcing : (log : Log) (now : Files) (may : Outcomes) (body : List ℕ) → IsOpen log now may → body ≡ take log.buffered log.buffer.items → Batch log.forced_bytes body (unforced log)
+forcing log now may body o is = record { entries = ap entries_of is ∙ body_is_read _ _ o.body; plain = o.plain; room = omega (arith, o.long, log.offsets) }
+
+-- what is found of an open log ends in its current file
+pub found_open : (log : Log) (now : Files) (may : Outcomes) → IsOpen log now may → IsFound (log_of log.first_file now) log.current_file log.forced_bytes
+found_open log now may o = is_found (log_of log.first_file now) log.current_file log.forced_bytes o.whole o.end
+
+pub forced_now : (first m base : ℕ) (body : List ℕ) (fs : List Entry) (old new : Files) (may may' : Outcomes) → IsFound (log_of first old) m base → Written m body old new may may' → Batch base body fs
+    → gated (new (LogFile m)) ≡ with_batch body (gated (old (LogFile m))) → log_of first new ≡ with_more fs (log_of first old)
+forced_now first m base body fs old new may may' f w b is =
+    more_in first m body fs old new f.found f.is f.at (λ j apart. w.only.reads (LogFile j) (λ same. let eq : j ≡ m = cc in apart eq)) is b.entries b.plain (omega (arith, b.room, f.offset)) ∙ ap (with_more fs) (sym f.is)
+
+pub forced_left : (first m base : ℕ) (body : List ℕ) (fs : List Entry) (old new : Files) (may may' : Outcomes) → Around first m base old may → Written m body old new may may' → Batch base body fs → (files : Files) → MayLeave may' files
+    → (log_of first files ≡ log_of first old) ⊎ (log_of first files ≡ with_more fs (log_of first old))
+forced_left first m base body fs old new may may' a w b files left =
+    ⊎_elim (λ same. inl same) (λ more. inr (left_more first m base body fs old files may a (λ n apart. w.only.crash n apart (files n) (left n)) more b.entries b.plain b.room)) (one_or_more first m base body old new may may' a w files left)
+
+pub forced_kept : (first m base : ℕ) (body : List ℕ) (fs : List Entry) (old new : Files) (may may' : Outcomes) → Around first m base old may → Written m body old new may may' → Batch base body fs
+    → gated (new (LogFile m)) ≡ with_batch body (gated (old (LogFile m))) → IsSettled (LogFile m) new may' → log_of first new ≡ with_more fs (log_of first old) → CrashLeavesLog first (log_of first new) may'
+forced_kept first m base body fs old new may may' a w b is settled now files left =
+    left_more first m base body fs old files may a (λ n apart. w.only.crash n apart (files n) (left n)) (ap gated (settled (files (LogFile m)) (left (LogFile m))) ∙ is) b.entries b.plain b.room ∙ sym now

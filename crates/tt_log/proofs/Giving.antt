@@ -7,18 +7,23 @@ use Rattle.tt_record.specs.declared.entry.Entry.{Entry}
 use Rattle.tt_log.specs.declared.log.Log.{Log}
 use Rattle.tt_log.specs.declared.scan.Scan.{Scan}
 use Rattle.tt_log.specs.declared.refusal.LogRefusal.{LogRefusal}
-use Rattle.tt_log.specs.Walk.{Files, LogContents, Part, placed, in_front, log_of, is_from, is_since, since}
+use Rattle.tt_log.specs.Walk.{LogContents, Part, placed, in_front, log_of, is_from, is_since, since}
 use Rattle.tt_log.specs.Log.{IsWhole, entries_in, walk_end, forced_of}
-use Rattle.tt_log.specs.Scan.{waiting, gate_offset, part_left, joined_from, ahead, IsScanning, from_here, left, given}
+use Rattle.tt_log.specs.Scan.{waiting, gate_offset, part_left, joined_from, ahead, IsScanning, from_here, left, Gives}
 use Rattle.tt_log.proofs.Following.{Standing}
 use Rattle.tt_log.proofs.Forcing.{is_found}
 use Rattle.tt_log.proofs.Purge.{log_later, since_forced}
 use Rattle.tt_log.proofs.Walks.{last_of}
 use Rattle.tt_log.proofs.Scanning.{start_ahead, switched_going}
+use Rattle.tt_disk.specs.Volume.{Files}
 
 front_entries : (p : Position × Entry) (r s : Standing) → IsOk r → r ≡ in_front (p ∷ []) s → entries_in r ≡ p ∷ entries_in s
 front_entries p r (Ok found) whole is = ap entries_in is
 front_entries p r (Err e) whole is = absurd (let bad = subst (λ (q : Standing). IsOk q) is whole in cc)
+
+pub front_end : (p : Position × Entry) (r s : Standing) → IsOk r → r ≡ in_front (p ∷ []) s → (walk_end s).file ≡ (walk_end r).file
+front_end p r (Ok found) whole is = sym (ap (λ (q : Standing). (walk_end q).file) is)
+front_end p r (Err e) whole is = absurd (let bad = subst (λ (q : Standing). IsOk q) is whole in cc)
 
 not_true : (b : Bool) → not b ≡ true → b ≡ false
 not_true true is = cc
@@ -127,11 +132,6 @@ new_left s log now w begun all offset file low high top =
     ∙ ap (λ (k : ℕ). filter (is_from s.from) (filter (is_since k) (forced_of log now))) file
     ∙ twice (is_from s.from) (is_since s.from.file) (forced_of log now) (from_since s.from)
 
--- an answer in other words
-pub in_left : (r : Result (Option (Position × Entry)) LogRefusal) (a b other more : List (Position × Entry)) → other ≡ a → more ≡ b → IfOk r (λ o. a ≡ given o b) → IfOk r (λ o. other ≡ given o more)
-in_left (Ok o) a b other more one two is = one ∙ is ∙ ap (given o) (sym two)
-in_left (Err e) a b other more one two is = tt
-
-pub still_left : (r : Result (Option (Position × Entry)) LogRefusal) (a b other more : List (Position × Entry)) → other ≡ a → more ≡ b → IfErr r (λ e. b ≡ a) → IfErr r (λ e. more ≡ other)
-still_left (Ok o) a b other more one two is = tt
-still_left (Err e) a b other more one two is = two ∙ is ∙ sym one
+-- what is given, of lists that are equal
+pub given_of : (r : Result (Option (Position × Entry)) LogRefusal) (a b other more : List (Position × Entry)) → other ≡ a → more ≡ b → Gives a b r → Gives other more r
+given_of r a b other more one two is = subst (λ (l : List (Position × Entry)). Gives other l r) (sym two) (subst (λ (l : List (Position × Entry)). Gives l b r) (sym one) is)

@@ -2,7 +2,7 @@
 use Rattle.std.proofs.Common.{◌≡◌, ◌⊎◌, inl, inr, ◌&&◌, ◌==◌, ℕ, ◌<◌, Bool, true, false, List, [], ◌∷◌, length, take, Option, Some, None, Ok, Err, refl, sym, ◌∙◌, ap, ap₂, arith, if◌then◌else◌}
 use Rattle.std.proofs.lemmas.Bool.{eqb-true, ltb-true}
 use Rattle.std.proofs.Math.Dec.{ltb}
-use Rattle.tt_disk.specs.Volume.{size_of}
+use Rattle.tt_disk.specs.Volume.{size_of, File}
 use Rattle.tt_gate.specs.declared.gate.GateRefusal.TheVariants.{Absent, BadHeader, BadBatch as GateBad, Failed as GateFailed}
 use Rattle.tt_gate.specs.declared.gate.GateRefusal.{GateRefusal}
 use Rattle.tt_gate.specs.GateFile.{RefusalHolds}
@@ -44,13 +44,13 @@ gap_by_length n f true is other =
     let long : 16 < length f = ltb-true 16 (length f) is in
     ap (part_of n (Some f)) (gated_long f long) ∙ other_header n f (walked_at 16 f).0 (walked_at 16 f).1 (other_bytes (take 16 f) (log_header n) (same_bytes (take 16 f) (log_header n)) refl (λ same. other (long, same)))
 
-pub file_gap : (n : ℕ) (o : Option (List ℕ)) → ¬ (IsHeaded n o) → file_read n o ≡ Err (Gap n)
+pub file_gap : (n : ℕ) (o : File) → ¬ (IsHeaded n o) → file_read n o ≡ Err (Gap n)
 unfolding file_read
 file_gap n None other = refl
 file_gap n (Some f) other = gap_by_length n f (ltb 16 (length f)) refl other
 
 -- a refusal of the header is that of the file
-pub header_refused : (n : ℕ) (o : Option (List ℕ)) (e : GateRefusal) (r : LogRefusal) → r ≡ refusal_of n e → RefusalHolds (log_header n) o e → ((at : ℕ) → ¬ (e ≡ GateBad at))
+pub header_refused : (n : ℕ) (o : File) (e : GateRefusal) (r : LogRefusal) → r ≡ refusal_of n e → RefusalHolds (log_header n) o e → ((at : ℕ) → ¬ (e ≡ GateBad at))
     → (r ≡ Failed) ⊎ ((r ≡ Gap n) × (file_read n o ≡ Err r))
 header_refused n o Absent r is holds read = inr (is, file_gap n o (λ h. absurd (omega (arith, h.0, ap size_of holds))) ∙ ap (λ (k : LogRefusal). Err k) (sym is))
 header_refused n o BadHeader r is holds read = inr (is, file_gap n o holds.1 ∙ ap (λ (k : LogRefusal). Err k) (sym is))
@@ -65,7 +65,7 @@ right_header n f bodies (Some at) same is =
     ∙ ap (λ (l : List (List ℕ)). bodies_read n 16 0 l (Err (BadBatch n at))) (sym is)
 
 -- a file that begins as it should is read from its first gate on
-pub file_headed : (n : ℕ) (o : Option (List ℕ)) → IsHeaded n o → file_read n o ≡ rest_read n 16 0 o
+pub file_headed : (n : ℕ) (o : File) → IsHeaded n o → file_read n o ≡ rest_read n 16 0 o
 unfolding file_read rest_read whole_bodies walked_at
 file_headed n None h = absurd (omega (arith, h.0))
 file_headed n (Some f) h =

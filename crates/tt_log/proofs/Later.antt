@@ -4,12 +4,13 @@ use Rattle.std.proofs.lemmas.Bool.{le-leb, cases_eq}
 use Rattle.std.proofs.lemmas.Bool.Decides.{nat_tests}
 use Rattle.std.proofs.lemmas.List.Elements.{filter-append}
 use Rattle.tt_disk.specs.declared.volume.Name.TheVariants.{Log}
+use Rattle.tt_disk.specs.Volume.{Files}
 use Rattle.tt_record.specs.declared.entry.Entry.{Entry}
 use Rattle.tt_value.specs.declared.position.Position.{Position}
 use Rattle.tt_record.specs.Entry.{length_of}
 use Rattle.tt_log.specs.Lengths.{total}
 use Rattle.tt_log.specs.declared.refusal.LogRefusal.{LogRefusal}
-use Rattle.tt_log.specs.Walk.{Files, Part, file_read, LogContents, placed, in_front, on_part, walk, log_of, is_since, since}
+use Rattle.tt_log.specs.Walk.{Part, file_read, LogContents, placed, in_front, on_part, walk, log_of, is_since, since}
 use Rattle.tt_record.specs.Place.{position}
 
 abbrev pub found_ok : LogContents → Result LogContents LogRefusal

@@ -1,6 +1,6 @@
 -- A first file that is no longer than a new one is the empty log.
 use Rattle.std.proofs.Common.{◌≡◌, ◌⊎◌, inl, inr, ◌≤◌, ◌<◌, ◌-◌, ◌+◌, ◌∙◌, ℕ, zero, suc, Bool, true, false, List, [], ◌∷◌, length, take, Option, Some, None, Result, Ok, Err, if◌then◌else◌, refl, sym, ap, subst, arith}
-use Rattle.tt_disk.specs.Volume.{bytes_of, size_of}
+use Rattle.tt_disk.specs.Volume.{bytes_of, size_of, Files, Outcomes, File}
 use Rattle.tt_gate.specs.GateFile.{CrashLeavesAtMost}
 use Rattle.tt_disk.specs.declared.volume.Name.TheVariants.{Log}
 use Rattle.tt_gate.specs.Gate.{gated, whole_bodies}
@@ -13,8 +13,7 @@ use Rattle.tt_log.specs.declared.refusal.LogRefusal.{LogRefusal}
 use Rattle.tt_log.specs.declared.refusal.LogRefusal.TheVariants.{Gap, BadBatch}
 use Rattle.tt_record.specs.Place.{position}
 use Rattle.tt_log.specs.Lengths.{total}
-use Rattle.tt_log.specs.Walk.{Files, LogContents, Part, after_switch, batch_read, before, bodies_read, chosen, file_read, in_front, is_last, log_header, log_of, no_switch, nothing, offset_behind, on_part, part_of, placed, same_bytes, switches, walk}
-use Rattle.tt_log.proofs.Crash.{Outcomes}
+use Rattle.tt_log.specs.Walk.{LogContents, Part, after_switch, batch_read, before, bodies_read, chosen, file_read, in_front, is_last, log_header, log_of, no_switch, nothing, offset_behind, on_part, part_of, placed, same_bytes, switches, walk}
 
 abbrev IsBad : Part → Type 0
 IsBad more = (p : List Entry × Bool) → ¬ (more ≡ Ok p)
@@ -58,7 +57,7 @@ none_part : (c : Bool) (e : LogRefusal) (p : List Entry × Bool) → (if c then 
 none_part true e p is = let same : ([], false) ≡ p = same_part ([], false) p is in (sym (ap (λ (q : List Entry × Bool). q.0) same), sym (ap (λ (q : List Entry × Bool). q.1) same))
 none_part false e p is = cc
 
-short_part : (o : Option (List ℕ)) (r : Result (List ℕ × List (List ℕ)) GateRefusal) → gated o ≡ r → size_of o ≤ 17 → (p : List Entry × Bool) → part_of 0 o r ≡ Ok p → (p.0 ≡ []) × (p.1 ≡ false)
+short_part : (o : File) (r : Result (List ℕ × List (List ℕ)) GateRefusal) → gated o ≡ r → size_of o ≤ 17 → (p : List Entry × Bool) → part_of 0 o r ≡ Ok p → (p.0 ≡ []) × (p.1 ≡ false)
 short_part o (Ok found) is short p read =
     let none : found.1 ≡ [] = none_in_short o found.0 found.1 short is in
     none_part (same_bytes found.0 (log_header 0)) (Gap 0) p
@@ -69,7 +68,7 @@ short_part o (Err Absent) is short p read = cc
 short_part o (Err BadHeader) is short p read = cc
 short_part o (Err GateFailed) is short p read = cc
 
-short_file : (o : Option (List ℕ)) → size_of o ≤ 17 → (p : List Entry × Bool) → file_read 0 o ≡ Ok p → (p.0 ≡ []) × (p.1 ≡ false)
+short_file : (o : File) → size_of o ≤ 17 → (p : List Entry × Bool) → file_read 0 o ≡ Ok p → (p.0 ≡ []) × (p.1 ≡ false)
 unfolding file_read
 short_file o short p read = short_part o (gated o) refl short p read
 
@@ -97,9 +96,9 @@ unfolding log_of
 short_log files found short is = short_walk (1000000 - 0) files found (omega arith) short is
 
 -- where a crash leaves of each log file what it could leave before, or none, the first one is no longer than it was
-pub few_left : (may may' : Outcomes) → ((k : ℕ) (c : Option (List ℕ)) → may' (Log k) c → may (Log k) c ⊎ (c ≡ None)) → CrashLeavesAtMost 17 (may (Log 0)) → CrashLeavesAtMost 17 (may' (Log 0))
+pub few_left : (may may' : Outcomes) → ((k : ℕ) (c : File) → may' (Log k) c → may (Log k) c ⊎ (c ≡ None)) → CrashLeavesAtMost 17 (may (Log 0)) → CrashLeavesAtMost 17 (may' (Log 0))
 few_left may may' from few c left = by (from 0 c left)
   where
     by : may (Log 0) c ⊎ (c ≡ None) → size_of c ≤ 17
     by (inl before) = few c before
-    by (inr none) = subst (λ (o : Option (List ℕ)). size_of o ≤ 17) (sym none) (omega arith)
+    by (inr none) = subst (λ (o : File). size_of o ≤ 17) (sym none) (omega arith)

@@ -8,12 +8,12 @@ use Rattle.tt_record.specs.BodyLaws.{no_body}
 use Rattle.tt_record.specs.Place.{position}
 use Rattle.tt_log.specs.Lengths.{total}
 use Rattle.tt_log.specs.declared.log.Log.{Log}
-use Rattle.tt_log.specs.Walk.{Files, log_of, no_switch}
+use Rattle.tt_log.specs.Walk.{log_of, no_switch}
 use Rattle.tt_log.specs.Log.{IsOpen, walk_end}
 use Rattle.tt_log.specs.File.{FoundEnd}
 use Rattle.tt_log.proofs.Adding.{none_left}
-use Rattle.tt_log.proofs.Crash.{Outcomes}
 use Rattle.tt_log.proofs.Following.{Standing}
+use Rattle.tt_disk.specs.Volume.{Files, Outcomes}
 
 pub opened : (log : Log) (now : Files) (may : Outcomes) → IsReady log.file now may → log.file.staged ≡ 0 → log.buffered ≡ 0 → FoundEnd (log_of log.first_file now) (position log.current_file log.forced_bytes) → IsOpen log now may
 opened log now may ready fresh used f =

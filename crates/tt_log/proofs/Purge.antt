@@ -4,12 +4,12 @@ use Rattle.std.proofs.lemmas.Bool.Decides.{nat_tests}
 use Rattle.tt_disk.specs.declared.volume.Name.{Name}
 use Rattle.tt_disk.specs.declared.volume.Name.TheVariants.{Log as LogFile}
 use Rattle.tt_log.specs.declared.refusal.LogRefusal.{LogRefusal}
-use Rattle.tt_log.specs.Walk.{Files, LogContents, file_read, on_part, walk, log_of, since, is_since, no_switch}
+use Rattle.tt_log.specs.Walk.{LogContents, file_read, on_part, walk, log_of, since, is_since, no_switch}
 use Rattle.tt_record.specs.Place.{position}
 use Rattle.tt_log.specs.Log.{MayLeave, CrashLeavesLog, IsOpen, is_between, OnlyBetween, walk_end, entries_in, or_none, unforced}
-use Rattle.tt_log.proofs.Crash.{Outcomes, same_in}
+use Rattle.tt_log.proofs.Crash.{same_in}
 use Rattle.std.specs.Prelude.{IsOk}
-use Rattle.tt_disk.specs.Volume.{size_of}
+use Rattle.tt_disk.specs.Volume.{size_of, Files, Outcomes}
 use Rattle.tt_gate.specs.declared.gate.GateFile.{GateFile}
 use Rattle.tt_gate.specs.Gate.{gated, end_of as gate_end}
 use Rattle.tt_gate.specs.GateFile.{IsReady, bodies_of}
@@ -91,20 +91,6 @@ above_gone first k m base end old mid new may may1 may2 f reads s only =
           let former : log_of k files' ≡ Ok g.found = s.crash kept files' (range_left (m + 1) end mid files may1 reads (λ n out. only.crash n out (files n) (left n))) ∙ g.is in
           same_in k m files' files g.found former g.at (λ j below. sym (range_apart (m + 1) end mid files (LogFile j) (out_low (m + 1) end j (omega (arith, below)))))
           (ap gated (sym (range_apart (m + 1) end mid files (LogFile m) (out_low (m + 1) end m (omega arith))))) ∙ sym g.is;
-    }
-
--- a file of a GateFile that wasn't removed
-pub ready_between : (file : GateFile) (from end : ℕ) (now now' : Files) (may may' : Outcomes) → is_between from end file.name ≡ false → OnlyBetween from end now now' may may' → IsReady file now may → IsReady file now' may'
-ready_between file from end now now' may may' out only r =
-    let e = only.reads file.name out in
-    record {
-      laid = record {
-        whole = subst (λ o. IsOk (gated o)) (sym e) r.laid.whole;
-        gate = subst (λ o. file.gate ≡ gate_end (bodies_of (gated o))) (sym e) r.laid.gate;
-        room = subst (λ o. 0 < file.staged → 9 + file.gate + file.staged ≤ size_of o) (sym e) r.laid.room;
-      };
-      kept = λ s c left. r.kept s c (only.crash file.name out c left) ∙ sym (ap gated e);
-      begun = r.begun;
     }
 
 -- the log from a later file on, once others are gone

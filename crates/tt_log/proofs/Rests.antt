@@ -1,7 +1,7 @@
 -- What is read of a file behind one of its gates.
 use Rattle.std.proofs.Common.{◌≡◌, ◌⊎◌, inl, inr, ℕ, ◌+◌, ◌<◌, ◌≤◌, Bool, true, false, nat_le, List, [], ◌∷◌, length, Option, Some, None, Result, Ok, Err, refl, sym, ◌∙◌, ap, subst, arith, if◌then◌else◌, le-leb, length-append}
 use Rattle.std.proofs.lemmas.Bool.Decides.{nat_tests}
-use Rattle.tt_disk.specs.Volume.{size_of, bytes_of}
+use Rattle.tt_disk.specs.Volume.{size_of, bytes_of, File}
 use Rattle.tt_gate.specs.declared.gate.Gate.{Gate}
 use Rattle.tt_gate.specs.declared.gate.Gate.TheVariants.{Closed as Shut, Full}
 use Rattle.tt_gate.specs.declared.gate.GateRefusal.{GateRefusal}
@@ -19,7 +19,7 @@ use Rattle.tt_log.specs.declared.refusal.LogRefusal.{LogRefusal}
 use Rattle.tt_log.specs.declared.refusal.LogRefusal.TheVariants.{BadBatch, Failed}
 use Rattle.tt_log.specs.Lengths.{total}
 use Rattle.tt_log.specs.Walk.{Part, before, after_switch, chosen, batch_read, bodies_read, is_last, offset_behind, no_switch, switches}
-use Rattle.tt_log.specs.Limits.{FILE_MOST}
+use Rattle.tt_log.specs.Limits.{file_most}
 use Rattle.tt_log.specs.Body.{body_in}
 use Rattle.tt_log.specs.Batch.{rest_read, end_with, IsHeaded, IsFull, IsPlain, IsBatch, IsRefused, gate_for, refusal_of, after_switch_by}
 
@@ -28,25 +28,25 @@ abbrev read_walk : ℕ → ℕ → ℕ → Walked → Part
 read_walk n gate offset w = bodies_read n gate offset w.0 (end_with n w.1)
 
 -- a closed gate, and one that is damaged
-pub rest_closed : (n gate offset : ℕ) (o : Option (List ℕ)) → IsHeaded n o → gate_in gate o ≡ Ok Shut → rest_read n gate offset o ≡ Ok ([], false)
+pub rest_closed : (n gate offset : ℕ) (o : File) → IsHeaded n o → gate_in gate o ≡ Ok Shut → rest_read n gate offset o ≡ Ok ([], false)
 unfolding rest_read
 rest_closed n gate offset None h says = absurd (omega (arith, h.0))
 rest_closed n gate offset (Some f) h says = ap (read_walk n gate offset) (closed_gate gate f says)
 
-pub rest_bad : (n gate offset b : ℕ) (o : Option (List ℕ)) → IsHeaded n o → gate_in gate o ≡ Err (GateBad b) → rest_read n gate offset o ≡ Err (BadBatch n b)
+pub rest_bad : (n gate offset b : ℕ) (o : File) → IsHeaded n o → gate_in gate o ≡ Err (GateBad b) → rest_read n gate offset o ≡ Err (BadBatch n b)
 unfolding rest_read
 rest_bad n gate offset b None h says = absurd (omega (arith, h.0))
 rest_bad n gate offset b (Some f) h says =
     let same : b ≡ gate = let is = bad_there gate (GateBad b) f says in cc in
     ap (read_walk n gate offset) (bad_gate gate f (GateBad b) says) ∙ ap (λ (k : ℕ). Err (BadBatch n k)) (sym same)
 
-abbrev batch_then : ℕ → ℕ → ℕ → List ℕ → Option (List ℕ) → Part
+abbrev batch_then : ℕ → ℕ → ℕ → List ℕ → File → Part
 batch_then n gate offset body o =
     batch_read n gate (gate + 9 + length body) offset (entries_of body) (is_last (walked_at (gate + 9 + length body) (bytes_of o)).0)
     (rest_read n (gate + 9 + length body) (offset_behind offset (entries_of body)) o)
 
 -- a batch, and what is read behind it
-rest_full : (n gate offset : ℕ) (body : List ℕ) (o : Option (List ℕ)) → IsHeaded n o → IsFull gate body o → rest_read n gate offset o ≡ batch_then n gate offset body o
+rest_full : (n gate offset : ℕ) (body : List ℕ) (o : File) → IsHeaded n o → IsFull gate body o → rest_read n gate offset o ≡ batch_then n gate offset body o
 unfolding rest_read
 rest_full n gate offset body None h full = absurd (omega (arith, h.0))
 rest_full n gate offset body (Some f) h full =
@@ -94,7 +94,7 @@ bad_read : (n at next offset : ℕ) (o : Option (List Entry)) (last : Bool) (mor
 bad_read n at next offset None last more is = refl
 bad_read n at next offset (Some es) last more is = bad_by n at next offset es last more (no_switch es) (switches n es) is
 
-pub batch_bad : (n gate offset : ℕ) (body : List ℕ) (o : Option (List ℕ)) → IsHeaded n o → IsFull gate body o → body_in n (entries_of body) ≡ Bad → rest_read n gate offset o ≡ Err (BadBatch n gate)
+pub batch_bad : (n gate offset : ℕ) (body : List ℕ) (o : File) → IsHeaded n o → IsFull gate body o → body_in n (entries_of body) ≡ Bad → rest_read n gate offset o ≡ Err (BadBatch n gate)
 batch_bad n gate offset body o h full is = rest_full n gate offset body o h full ∙ bad_read n gate (gate + 9 + length body) offset (entries_of body) _ _ is
 
 switch_then : (n at next offset : ℕ) (o : Option (List Entry)) (last : Bool) (more : Part) → WasTurn n o → batch_read n at next offset o last more ≡ (if last then after_switch more else Err (BadBatch n next))
@@ -109,7 +109,7 @@ no_absent at file is = let bad = bad_there at Absent file is in cc
 no_header : {C : Type 0} (at : ℕ) (file : List ℕ) → gate_in at (Some file) ≡ Err BadHeader → C
 no_header at file is = let bad = bad_there at BadHeader file is in cc
 
-pub batch_switch : (n gate offset : ℕ) (body : List ℕ) (o : Option (List ℕ)) (r : Result Batch LogRefusal) → IsHeaded n o → IsFull gate body o → body_in n (entries_of body) ≡ NextFile
+pub batch_switch : (n gate offset : ℕ) (body : List ℕ) (o : File) (r : Result Batch LogRefusal) → IsHeaded n o → IsFull gate body o → body_in n (entries_of body) ≡ NextFile
     → (r ≡ Err Failed) ⊎ (r ≡ after_switch_by n (gate + 9 + length body) (gate_in (gate + 9 + length body) o)) → IsBatch n gate offset o r
 batch_switch n gate offset body None r h full is answer = absurd (omega (arith, h.0))
 batch_switch n gate offset body (Some f) r h full is answer = by_answer answer
@@ -142,22 +142,22 @@ long_body (e ∷ es) = omega (arith, long_body es, length-append (entry_bytes e)
 pub long_read : (body : List ℕ) (es : List Entry) → AreBytes body → entries_of body ≡ Some es → total es ≡ length body
 long_read body es bytes is = let b = read_is_body body es bytes is in long_body es ∙ ap length (sym b.whole)
 
-plain_then : (n at next offset count : ℕ) (o : Option (List Entry)) (last : Bool) (more : Part) (w : WasEntries o count) → batch_read n at next offset o last more ≡ (if nat_le (offset + total w.es) FILE_MOST then before w.es more else Err (BadBatch n at))
+plain_then : (n at next offset count : ℕ) (o : Option (List Entry)) (last : Bool) (more : Part) (w : WasEntries o count) → batch_read n at next offset o last more ≡ (if nat_le (offset + total w.es) file_most then before w.es more else Err (BadBatch n at))
 plain_then n at next offset count o last more w =
     ap (λ p. batch_read n at next offset p last more) w.is ∙ ap (λ (b : Bool). chosen b (switches n w.es) last w.es n at next offset more) w.plain
 
 not_le : (a b : ℕ) → b < a → nat_le a b ≡ false
 not_le a b below = grind (arith, nat_tests)
 
-pub batch_over : (n gate offset count : ℕ) (body : List ℕ) (o : Option (List ℕ)) → IsHeaded n o → IsFull gate body o → AreBytes body → body_in n (entries_of body) ≡ Entries count → FILE_MOST < offset + length body
+pub batch_over : (n gate offset count : ℕ) (body : List ℕ) (o : File) → IsHeaded n o → IsFull gate body o → AreBytes body → body_in n (entries_of body) ≡ Entries count → file_most < offset + length body
     → rest_read n gate offset o ≡ Err (BadBatch n gate)
 batch_over n gate offset count body o h full bytes is over =
     let w = were_entries n count (entries_of body) is in
     let long = long_read body w.es bytes w.is in
     rest_full n gate offset body o h full ∙ plain_then n gate (gate + 9 + length body) offset count (entries_of body) _ _ w
-    ∙ ap (λ (b : Bool). if b then before w.es (rest_read n (gate + 9 + length body) (offset_behind offset (entries_of body)) o) else Err (BadBatch n gate)) (not_le (offset + total w.es) FILE_MOST (omega (arith, long, over)))
+    ∙ ap (λ (b : Bool). if b then before w.es (rest_read n (gate + 9 + length body) (offset_behind offset (entries_of body)) o) else Err (BadBatch n gate)) (not_le (offset + total w.es) file_most (omega (arith, long, over)))
 
-pub batch_plain : (n gate offset count : ℕ) (body : List ℕ) (o : Option (List ℕ)) → IsHeaded n o → IsFull gate body o → AreBytes body → body_in n (entries_of body) ≡ Entries count → offset + length body ≤ FILE_MOST
+pub batch_plain : (n gate offset count : ℕ) (body : List ℕ) (o : File) → IsHeaded n o → IsFull gate body o → AreBytes body → body_in n (entries_of body) ≡ Entries count → offset + length body ≤ file_most
     → IsPlain n gate offset o body
 batch_plain n gate offset count body o h full bytes is fits =
     let w = were_entries n count (entries_of body) is in
@@ -167,12 +167,12 @@ batch_plain n gate offset count body o h full bytes is fits =
       is = w.is;
       long = long;
       goes = rest_full n gate offset body o h full ∙ plain_then n gate (gate + 9 + length body) offset count (entries_of body) _ _ w
-          ∙ ap (λ (b : Bool). if b then before w.es (rest_read n (gate + 9 + length body) (offset_behind offset (entries_of body)) o) else Err (BadBatch n gate)) (le-leb (offset + total w.es) FILE_MOST (omega (arith, long, fits)))
+          ∙ ap (λ (b : Bool). if b then before w.es (rest_read n (gate + 9 + length body) (offset_behind offset (entries_of body)) o) else Err (BadBatch n gate)) (le-leb (offset + total w.es) file_most (omega (arith, long, fits)))
           ∙ ap (λ (k : ℕ). before w.es (rest_read n (gate + 9 + length body) k o)) (ap (offset_behind offset) w.is ∙ ap (λ (k : ℕ). offset + k) long);
     }
 
 -- what the gate says that the first call answered
-pub gate_refused : (n gate offset : ℕ) (o : Option (List ℕ)) (e : LogRefusal) → IsHeaded n o → 0 < gate → (◌≡◌ {A = Result Gate LogRefusal} (Err e) (Err Failed)) ⊎ (Err e ≡ gate_for n (gate_in gate o)) → IsRefused e (rest_read n gate offset o)
+pub gate_refused : (n gate offset : ℕ) (o : File) (e : LogRefusal) → IsHeaded n o → 0 < gate → (◌≡◌ {A = Result Gate LogRefusal} (Err e) (Err Failed)) ⊎ (Err e ≡ gate_for n (gate_in gate o)) → IsRefused e (rest_read n gate offset o)
 gate_refused n gate offset None e h some answer = absurd (omega (arith, h.0))
 gate_refused n gate offset (Some f) e h some (inl failed) = inl (let same : e ≡ Failed = cc in same)
 gate_refused n gate offset (Some f) e h some (inr same) = by_gate (gate_in gate (Some f)) refl same
@@ -196,6 +196,6 @@ gate_told n r g x (inl failed) is = absurd (let bad : gate_err Failed ≡ gate_o
 gate_told n r g (Ok h) (inr same) is = let one : gate_ok h ≡ gate_ok g = sym same ∙ is in let two : h ≡ g = cc in ap (λ (k : Gate). Ok k) two
 gate_told n r g (Err e) (inr same) is = absurd (let bad : gate_err (refusal_of n e) ≡ gate_ok g = sym same ∙ is in cc)
 
-pub gate_inside : (gate k : ℕ) (o : Option (List ℕ)) → gate_in gate o ≡ Ok (Full k) → gate + 9 + k ≤ size_of o
+pub gate_inside : (gate k : ℕ) (o : File) → gate_in gate o ≡ Ok (Full k) → gate + 9 + k ≤ size_of o
 gate_inside gate k None says = cc
 gate_inside gate k (Some f) says = omega (arith, full_gate_inside gate k f says)

@@ -3,7 +3,7 @@ use Rattle.std.proofs.Common.{◌≡◌, ◌⊎◌, inl, inr, ◌<◌, ◌≤◌
 use Rattle.std.specs.Prelude.{IsOk}
 use Rattle.std.proofs.lemmas.List.{drop-drop}
 use Rattle.tt_disk.specs.declared.volume.Name.TheVariants.{Log as LogFile}
-use Rattle.tt_disk.specs.Volume.{Keeps}
+use Rattle.tt_disk.specs.Volume.{Keeps, Files, Outcomes}
 use Rattle.tt_value.specs.declared.position.Position.{Position}
 use Rattle.tt_record.specs.declared.entry.Entry.{Entry}
 use Rattle.tt_record.specs.Entry.{length_of}
@@ -14,7 +14,7 @@ use Rattle.tt_log.specs.Lengths.{total}
 use Rattle.tt_log.specs.declared.scan.Scan.{Scan}
 use Rattle.tt_log.specs.declared.refusal.LogRefusal.{LogRefusal}
 use Rattle.tt_log.specs.declared.refusal.LogRefusal.TheVariants.{Failed, NoMemory, Gap}
-use Rattle.tt_log.specs.Walk.{Files, Part, before, file_read, placed, in_front, on_part, log_of}
+use Rattle.tt_log.specs.Walk.{Part, before, file_read, placed, in_front, on_part, log_of}
 use Rattle.tt_log.specs.Batch.{rest_read, IsHeaded, IsRefused, IsPlain}
 use Rattle.tt_log.specs.Log.{or_none, entries_in}
 use Rattle.tt_log.specs.Scan.{waiting, gate_offset, part_left, joined_from, ahead, IsGoing}
@@ -22,7 +22,6 @@ use Rattle.tt_log.proofs.Sums.{total_more}
 use Rattle.tt_log.proofs.Heads.{file_headed}
 use Rattle.tt_log.proofs.Later.{found_ok}
 use Rattle.tt_log.proofs.Walks.{placed_more, in_front_twice}
-use Rattle.tt_log.proofs.Crash.{Outcomes}
 use Rattle.tt_log.proofs.Following.{Standing, log_step}
 
 pub same_files : (a b : Files) (may_a may_b : Outcomes) → Keeps a b may_a may_b → b ≡ a

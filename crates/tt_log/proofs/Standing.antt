@@ -2,9 +2,10 @@
 use Rattle.std.proofs.Common.{◌≡◌, ◌≤◌, ◌<◌, ◌+◌, ℕ, List, Option, Some, None, Ok, Err, refl, sym, ap, ◌∙◌, subst, arith}
 use Rattle.std.specs.Prelude.{IsOk, IsSome}
 use Rattle.tt_disk.specs.declared.volume.Name.TheVariants.{Log as LogFile}
+use Rattle.tt_disk.specs.Volume.{Files, File}
 use Rattle.tt_log.specs.declared.log.Log.{Log}
 use Rattle.tt_log.specs.declared.refusal.LogRefusal.TheVariants.{Gap}
-use Rattle.tt_log.specs.Walk.{Files, Part, on_part, file_read, log_of, since}
+use Rattle.tt_log.specs.Walk.{Part, on_part, file_read, log_of, since}
 use Rattle.tt_log.specs.Log.{IsWhole}
 use Rattle.tt_log.proofs.Following.{Standing, log_step}
 use Rattle.tt_log.proofs.Forcing.{is_found}
@@ -18,7 +19,7 @@ still_ok k (Err e) is = absurd (let bad = is in cc)
 no_file : (k : ℕ) → file_read k None ≡ Err (Gap k)
 no_file k = file_gap k None (λ h. absurd (omega (arith, h.0)))
 
-is_there : (k : ℕ) (o : Option (List ℕ)) (more : Standing) → IsOk (on_part k (file_read k o) more) → IsSome o
+is_there : (k : ℕ) (o : File) (more : Standing) → IsOk (on_part k (file_read k o) more) → IsSome o
 is_there k (Some f) more whole = refl
 is_there k None more whole = absurd (let bad = subst (λ (p : Part). IsOk (on_part k p more)) (no_file k) whole in cc)
 

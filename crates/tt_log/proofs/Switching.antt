@@ -1,10 +1,10 @@
 -- The change to the next file.
-use Rattle.std.proofs.Common.{◌≡◌, ◌≤◌, ◌<◌, ◌+◌, ◌-◌, ◌&&◌, ◌⊎◌, inl, inr, ⊎_elim, ℕ, zero, suc, List, [], ◌∷◌, ◌++◌, refl, sym, ap, ◌∙◌, subst, Bool, true, false, arith, Option, Some, Result, Ok, nat_lt}
+use Rattle.std.proofs.Common.{◌≡◌, ◌≤◌, ◌<◌, ◌+◌, ◌-◌, ◌&&◌, ◌⊎◌, ⊎_elim, inl, inr, ℕ, zero, suc, List, [], ◌∷◌, ◌++◌, refl, sym, ap, ◌∙◌, subst, Bool, true, false, arith, Option, Some, Result, Ok, nat_lt}
 use Rattle.std.specs.Prelude.{IsOk}
 use Rattle.std.proofs.lemmas.Bool.{eq-eqb, lt-ltb}
 use Rattle.tt_disk.specs.declared.volume.Name.{Name}
 use Rattle.tt_disk.specs.declared.volume.Name.TheVariants.{Log as LogFile}
-use Rattle.tt_disk.specs.Volume.{IsSettled, size_of, OnlyAt}
+use Rattle.tt_disk.specs.Volume.{IsSettled, size_of, OnlyAt, Files, Outcomes, File}
 use Rattle.tt_gate.specs.declared.gate.GateFile.{GateFile}
 use Rattle.tt_gate.specs.declared.gate.GateRefusal.{GateRefusal}
 use Rattle.tt_gate.specs.Gate.{gated, end_of as gate_end}
@@ -16,25 +16,24 @@ use Rattle.tt_record.specs.BodyLaws.{body_is_read}
 use Rattle.tt_record.specs.Read.{entries_of}
 use Rattle.tt_log.specs.declared.log.Log.{Log}
 use Rattle.tt_log.specs.declared.refusal.LogRefusal.{LogRefusal}
-use Rattle.tt_log.specs.Walk.{Files, LogContents, walk, on_part, file_read, nothing, log_of, with_more, switched, switches, log_header}
+use Rattle.tt_log.specs.Walk.{LogContents, walk, on_part, file_read, nothing, log_of, with_more, switched, switches, log_header}
 use Rattle.tt_record.specs.Place.{position}
 use Rattle.tt_log.specs.Log.{IsOpen, MayLeave, CrashLeavesLog, CrashLeavesForced, OnlyTwo, IsUntouched, unforced, walk_end}
-use Rattle.tt_log.proofs.Crash.{Outcomes, Around, put_log, put_apart, put_left, all_left, same_in, switched_in, left_same, left_switched}
+use Rattle.tt_log.proofs.Crash.{Around, put_log, put_apart, put_left, all_left, same_in, switched_in, left_same, left_switched}
 use Rattle.tt_log.proofs.FileParts.{file_made}
-use Rattle.tt_log.proofs.Forcing.{IsFound, body_alone}
+use Rattle.tt_log.proofs.Forcing.{IsFound, Written, one_or_more}
 use Rattle.tt_log.proofs.Following.{Standing}
 
--- a file that another call left alone
-pub still_ready : (file : GateFile) (name : Name) (now now' : Files) (may may' : Outcomes) → ¬ (file.name ≡ name) → OnlyAt name now now' may may' → IsReady file now may → IsReady file now' may'
-still_ready file name now now' may may' apart only r =
-    let e = only.reads file.name apart in
+-- a gate file of which nothing changed
+pub ready_same : (file : GateFile) (now now' : Files) (may may' : Outcomes) → now' file.name ≡ now file.name → ((c : File) → may' file.name c → may file.name c) → IsReady file now may → IsReady file now' may'
+ready_same file now now' may may' reads crash r =
     record {
       laid = record {
-        whole = subst (λ o. IsOk (gated o)) (sym e) r.laid.whole;
-        gate = subst (λ o. file.gate ≡ gate_end (bodies_of (gated o))) (sym e) r.laid.gate;
-        room = subst (λ o. 0 < file.staged → 9 + file.gate + file.staged ≤ size_of o) (sym e) r.laid.room;
+        whole = subst (λ o. IsOk (gated o)) (sym reads) r.laid.whole;
+        gate = subst (λ o. file.gate ≡ gate_end (bodies_of (gated o))) (sym reads) r.laid.gate;
+        room = subst (λ o. 0 < file.staged → 9 + file.gate + file.staged ≤ size_of o) (sym reads) r.laid.room;
       };
-      kept = λ s c left. r.kept s c (only.crash file.name apart c left) ∙ sym (ap gated e);
+      kept = λ s c left. r.kept s c (crash c left) ∙ sym (ap gated reads);
       begun = r.begun;
     }
 
@@ -68,95 +67,53 @@ around_made first m base now1 now2 may1 may2 f a only reads =
     }
 
 -- the entries of a log are forced, and the next file is made
-pub record Moved (log moved : Log) (old now next : Files) (may may' may'' : Outcomes) : Type 1 where
-  pub found : IsFound (log_of log.first_file next) moved.current_file moved.forced_bytes
-  pub same : log_of log.first_file next ≡ with_more (unforced log) (log_of log.first_file old)
-  pub around : CrashLeavesForced log old may → Around log.first_file moved.current_file moved.forced_bytes next may''
-  pub left : CrashLeavesForced log old may → CrashLeavesLog log.first_file (with_more (unforced log) (log_of log.first_file old)) may''
+pub record Moved (log moved : Log) (old next : Files) (may may' : Outcomes) : Type 1 where
+  pub found : IsFound (log_of moved.first_file next) moved.current_file moved.forced_bytes
+  pub same : log_of moved.first_file next ≡ with_more (unforced log) (log_of log.first_file old)
+  pub around : CrashLeavesForced log old may → Around moved.first_file moved.current_file moved.forced_bytes next may'
 
 switches_next : (m : ℕ) → m < 999999 → switches m (Switch (m + 1) ∷ []) ≡ true
 switches_next m below = ap (λ (b : Bool). b && nat_lt m 999999) (eq-eqb (m + 1) (m + 1) refl) ∙ lt-ltb m 999999 below
 
-abbrev made_with : List ℕ → Result (List ℕ × List (List ℕ)) GateRefusal
-made_with header = Ok (header, [])
+pub header_made : (n : ℕ) (r : Result (List ℕ × List (List ℕ)) GateRefusal) (header : List ℕ) → r ≡ Ok (header, []) → header ≡ log_header n → r ≡ Ok (log_header n, [])
+header_made n r header made head = made ∙ ap (λ (l : List ℕ). Ok (l, [])) head
 
--- one call that appends the Switch, with an empty file behind
-pub record SwitchStep (first m : ℕ) (name : Name) (given body : List ℕ) (old new : Files) (may may' : Outcomes) : Type 0 where
-  pub named : name ≡ LogFile m
-  pub alone : given ≡ body
-  pub entries : entries_of body ≡ Some (Switch (m + 1) ∷ [])
-  pub only : OnlyAt name old new may may'
-  pub crash : CrashLeavesFormerOrMore (may name) (gated (old name)) given (may' name)
-  pub next : (c : Option (List ℕ)) → may (LogFile (m + 1)) c → gated c ≡ Ok (log_header (m + 1), [])
-  pub reads : may (LogFile (m + 1)) (old (LogFile (m + 1)))
+-- an empty file stands behind file m
+pub record NextMade (first m : ℕ) (now : Files) (may : Outcomes) : Type 0 where
+  pub settled : IsSettled (LogFile (m + 1)) now may
+  pub reads : may (LogFile (m + 1)) (now (LogFile (m + 1)))
+  pub empty : gated (now (LogFile (m + 1))) ≡ Ok (log_header (m + 1), [])
   pub below : m < 999999
   pub low : first ≤ m
 
--- the Switch that an open log appends, once the next file is made
-pub switching : (first : ℕ) (log : Log) (before old new : Files) (may_before may may' : Outcomes) (given header : List ℕ) → IsOpen log before may_before → given ≡ entry_bytes (Switch (log.current_file + 1))
-    → IsBody given (Switch (log.current_file + 1) ∷ []) → OnlyAt log.file.name old new may may'
-    → CrashLeavesFormerOrMore (may log.file.name) (gated (old log.file.name)) (staged_in log.file (old log.file.name) ++ given) (may' log.file.name)
-    → IsSettled (LogFile (log.current_file + 1)) old may → gated (old (LogFile (log.current_file + 1))) ≡ Ok (header, []) → header ≡ log_header (log.current_file + 1)
-    → may (LogFile (log.current_file + 1)) (old (LogFile (log.current_file + 1))) → log.current_file < 999999 → first ≤ log.current_file
-    → SwitchStep first log.current_file log.file.name (staged_in log.file (old log.file.name) ++ given) (entry_bytes (Switch (log.current_file + 1))) old new may may'
-switching first log before old new may_before may may' given header o is body only crash settled made head reads below low = record {
-  named = log.named;
-  alone = body_alone log.file (old log.file.name) given o.fresh ∙ is;
-  entries = body_is_read _ _ (subst (λ (l : List ℕ). IsBody l (Switch (log.current_file + 1) ∷ [])) is body);
-  only = only;
-  crash = crash;
-  next = λ c left. ap gated (settled c left) ∙ made ∙ ap made_with head;
-  reads = reads;
-  below = below;
-  low = low;
-}
+next_apart : (m : ℕ) → ¬ (LogFile (m + 1) ≡ LogFile m)
+next_apart m = apart_next (LogFile (m + 1)) (m + 1) m refl (λ eq. omega (arith, eq))
 
-next_apart : (m : ℕ) (name : Name) → name ≡ LogFile m → ¬ (LogFile (m + 1) ≡ name)
-next_apart m name is same = let eq : m + 1 ≡ m = cc in omega (arith, eq)
-
-more_switched : (first m base : ℕ) (name : Name) (given body : List ℕ) (old new files : Files) (may may' : Outcomes) → Around first m base old may → SwitchStep first m name given body old new may may' → MayLeave may' files
+more_switched : (first m base : ℕ) (body : List ℕ) (old new files : Files) (may may' : Outcomes) → Around first m base old may → NextMade first m old may → Written m body old new may may' → entries_of body ≡ Some (Switch (m + 1) ∷ []) → MayLeave may' files
     → gated (files (LogFile m)) ≡ with_batch body (gated (old (LogFile m))) → log_of first files ≡ switched (log_of first old)
-more_switched first m base name given body old new files may may' a t left more =
-    left_switched first m base body (Switch (m + 1) ∷ []) old files may a (λ n apart. t.only.crash n (λ same. apart (same ∙ t.named)) (files n) (left n)) more t.entries refl (switches_next m t.below)
-    (omega (arith, t.below, t.low)) (omega (arith, t.below)) (t.next (files (LogFile (m + 1))) (t.only.crash (LogFile (m + 1)) (next_apart m name t.named) (files (LogFile (m + 1))) (left (LogFile (m + 1)))))
+more_switched first m base body old new files may may' a t w is left more =
+    left_switched first m base body (Switch (m + 1) ∷ []) old files may a (λ n apart. w.only.crash n apart (files n) (left n)) more is refl (switches_next m t.below) (omega (arith, t.below, t.low)) (omega (arith, t.below))
+    (ap gated (t.settled (files (LogFile (m + 1))) (w.only.crash (LogFile (m + 1)) (next_apart m) (files (LogFile (m + 1))) (left (LogFile (m + 1))))) ∙ t.empty)
 
-pub switched_left : (first m base : ℕ) (name : Name) (given body : List ℕ) (old new : Files) (may may' : Outcomes) → Around first m base old may → SwitchStep first m name given body old new may may' → (files : Files) → MayLeave may' files
-    → (log_of first files ≡ log_of first old) ⊎ (log_of first files ≡ switched (log_of first old))
-switched_left first m base name given body old new may may' a t files left =
-    by_case (subst (λ l. CrashLeavesFormerOrMore (may (LogFile m)) (gated (old (LogFile m))) l (may' (LogFile m))) t.alone (subst (λ n. CrashLeavesFormerOrMore (may n) (gated (old n)) given (may' n)) t.named t.crash) (files (LogFile m)) (left (LogFile m)))
-  where
-    others : (n : Name) → ¬ (n ≡ LogFile m) → may n (files n)
-    others n apart = t.only.crash n (λ same. apart (same ∙ t.named)) (files n) (left n)
+pub switched_left : (first m base : ℕ) (body : List ℕ) (old new : Files) (may may' : Outcomes) → Around first m base old may → NextMade first m old may → Written m body old new may may' → entries_of body ≡ Some (Switch (m + 1) ∷ [])
+    → (files : Files) → MayLeave may' files → (log_of first files ≡ log_of first old) ⊎ (log_of first files ≡ switched (log_of first old))
+switched_left first m base body old new may may' a t w is files left =
+    ⊎_elim (λ same. inl same) (λ more. inr (more_switched first m base body old new files may may' a t w is left more)) (one_or_more first m base body old new may may' a w files left)
 
-    by_case : may (LogFile m) (files (LogFile m)) ⊎ ((gated (files (LogFile m)) ≡ gated (old (LogFile m))) ⊎ (gated (files (LogFile m)) ≡ with_batch body (gated (old (LogFile m)))))
-        → (log_of first files ≡ log_of first old) ⊎ (log_of first files ≡ switched (log_of first old))
-    by_case (inl former) = inl (a.kept files (all_left m files may former others))
-    by_case (inr (inl same)) = inl (left_same first m base old files may a others same)
-    by_case (inr (inr more)) = inr (more_switched first m base name given body old new files may may' a t left more)
-
-pub switched_now : (first m base : ℕ) (name : Name) (given body : List ℕ) (old new : Files) (may may' : Outcomes) → IsFound (log_of first old) m base → SwitchStep first m name given body old new may may'
-    → gated (new name) ≡ with_batch given (gated (old name)) → log_of first new ≡ switched (log_of first old)
-switched_now first m base name given body old new may may' f t done =
-    let reads = subst (λ n. (k : Name) → ¬ (k ≡ n) → new k ≡ old k) t.named t.only.reads in
+pub switched_now : (first m base : ℕ) (body : List ℕ) (old new : Files) (may may' : Outcomes) → IsFound (log_of first old) m base → NextMade first m old may → Written m body old new may may' → entries_of body ≡ Some (Switch (m + 1) ∷ [])
+    → gated (new (LogFile m)) ≡ with_batch body (gated (old (LogFile m))) → log_of first new ≡ switched (log_of first old)
+switched_now first m base body old new may may' f t w is more =
     switched_in first m body (Switch (m + 1) ∷ []) old new f.found f.is f.at (omega (arith, t.below, t.low)) (omega (arith, t.below))
-    (λ j below. reads (LogFile j) (apart_next (LogFile j) j m refl (λ eq. omega (arith, below, eq))))
-    (subst (λ n. gated (new n) ≡ with_batch body (gated (old n))) t.named (done ∙ ap (λ (l : List ℕ). with_batch l (gated (old name))) t.alone)) t.entries refl (switches_next m t.below)
-    (ap gated (reads (LogFile (m + 1)) (apart_next (LogFile (m + 1)) (m + 1) m refl (λ eq. omega (arith, eq)))) ∙ t.next (old (LogFile (m + 1))) t.reads)
+    (λ j below. w.only.reads (LogFile j) (apart_next (LogFile j) j m refl (λ eq. omega (arith, below, eq)))) more is refl (switches_next m t.below) (ap gated (w.only.reads (LogFile (m + 1)) (next_apart m)) ∙ t.empty)
     ∙ ap switched (sym f.is)
 
-pub switched_kept : (first m base : ℕ) (name : Name) (given body : List ℕ) (old new : Files) (may may' : Outcomes) → Around first m base old may → SwitchStep first m name given body old new may may'
-    → log_of first new ≡ switched (log_of first old) → gated (new name) ≡ with_batch given (gated (old name)) → IsSettled name new may' → CrashLeavesLog first (log_of first new) may'
-switched_kept first m base name given body old new may may' a t now done settled files left =
-    more_switched first m base name given body old new files may may' a t left
-    (subst (λ n. gated (files n) ≡ with_batch body (gated (old n))) t.named (ap gated (settled (files name) (left name)) ∙ done ∙ ap (λ (l : List ℕ). with_batch l (gated (old name))) t.alone))
-    ∙ sym now
+pub switched_kept : (first m base : ℕ) (body : List ℕ) (old new : Files) (may may' : Outcomes) → Around first m base old may → NextMade first m old may → Written m body old new may may' → entries_of body ≡ Some (Switch (m + 1) ∷ [])
+    → gated (new (LogFile m)) ≡ with_batch body (gated (old (LogFile m))) → IsSettled (LogFile m) new may' → log_of first new ≡ switched (log_of first old) → CrashLeavesLog first (log_of first new) may'
+switched_kept first m base body old new may may' a t w is more settled now files left =
+    more_switched first m base body old new files may may' a t w is left (ap gated (settled (files (LogFile m)) (left (LogFile m))) ∙ more) ∙ sym now
 
 pub switched_end : (r : Standing) (m base : ℕ) → IsFound r m base → IsOk (switched r) × (walk_end (switched r) ≡ position (m + 1) 0)
 switched_end r m base f = (subst (λ (q : Standing). IsOk (switched q)) (sym f.is) refl, ap (λ (q : Standing). walk_end (switched q)) f.is ∙ ap (λ (k : ℕ). position (k + 1) 0) f.at)
-
--- entries that are forced stay so, whether or not the Switch behind them is there
-pub to_more : (r r0 r2 : Result LogContents LogRefusal) (es : List Entry) → r2 ≡ with_more es r0 → (r ≡ r2) ⊎ (r ≡ switched r2) → (r ≡ with_more es r0) ⊎ (r ≡ switched (with_more es r0))
-to_more r r0 r2 es is either = ⊎_elim (λ same. inl (same ∙ is)) (λ switch. inr (switch ∙ ap switched is)) either
 
 -- a call that changes the current file alone leaves the next one
 pub next_untouched : (m : ℕ) (old new : Files) (may may' : Outcomes) → OnlyAt (LogFile m) old new may may' → IsUntouched (LogFile (m + 1)) old new may may'

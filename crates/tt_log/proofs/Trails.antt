@@ -9,11 +9,11 @@ use Rattle.tt_log.specs.Lengths.{total}
 use Rattle.tt_record.specs.Place.{position_of, next_position, position}
 use Rattle.tt_log.specs.declared.log.Log.{Log}
 use Rattle.tt_log.specs.declared.refusal.LogRefusal.{LogRefusal}
-use Rattle.tt_log.specs.Walk.{Files, LogContents, placed, log_of, with_more, switched}
-use Rattle.tt_log.specs.Log.{MayLeave, CrashLeavesSwitched, CrashLeavesLogOr, IsOpen, Gave, unforced, write_position_of, walk_end, entries_in, forces_earlier, room_made, forced_of, trail_of, CrashLeavesForcedOrAll}
-use Rattle.tt_log.proofs.Crash.{Outcomes}
+use Rattle.tt_log.specs.Walk.{LogContents, placed, log_of, with_more, switched}
+use Rattle.tt_log.specs.Log.{MayLeave, CrashLeavesAll, IsOpen, Gave, unforced, write_position_of, walk_end, entries_in, forces_earlier, room_made, forced_of, trail_of}
 use Rattle.tt_log.proofs.Walks.{placed_more}
 use Rattle.tt_log.proofs.Forcing.{more_end, more_none}
+use Rattle.tt_disk.specs.Volume.{Files, Outcomes}
 
 abbrev Standing : Type 0
 Standing = Result LogContents LogRefusal
@@ -90,15 +90,12 @@ gave_all log now may r o (inr is) =
       end = inr (ap walk_end is ∙ switched_at (with_more (unforced log) (log_of log.first_file now)) (write_position_of log) ends.0 ends.1);
     }
 
--- what a crash leaves, in the words of the trail
-pub switched_gives : (log : Log) (now : Files) (may may' : Outcomes) → IsOpen log now may → CrashLeavesSwitched log.first_file (log_of log.first_file now) (unforced log) may' → CrashLeavesForcedOrAll log now may'
-switched_gives log now may may' o leaves files left =
-    by_case (log_of log.first_file files) (leaves files left)
-  where
-    by_case : (r : Standing) → (r ≡ log_of log.first_file now) ⊎ ((r ≡ with_more (unforced log) (log_of log.first_file now)) ⊎ (r ≡ switched (with_more (unforced log) (log_of log.first_file now))))
-        → (r ≡ log_of log.first_file now) ⊎ Gave r (trail_of log now) (write_position_of log)
-    by_case r (inl is) = inl is
-    by_case r (inr more) = inr (gave_all log now may r o more)
+-- once the entries are forced, a crash leaves all, whatever came of a change of file behind them
+pub leaves_all : (log : Log) (now : Files) (may may' : Outcomes) (first : ℕ) (r : Standing) → first ≡ log.first_file → IsOpen log now may → r ≡ with_more (unforced log) (log_of log.first_file now)
+    → ((files : Files) → MayLeave may' files → (log_of first files ≡ r) ⊎ (log_of first files ≡ switched r)) → CrashLeavesAll log now may'
+leaves_all log now may may' first r same o is leaves files left =
+    subst (λ k. Gave (log_of k files) (trail_of log now) (write_position_of log)) same
+    (gave_all log now may (log_of first files) o (⊎_elim (λ e. inl (e ∙ is)) (λ e. inr (e ∙ ap switched is)) (leaves files left)))
 
 -- after a force all is forced
 pub all_forced : (log log' : Log) (now now' : Files) → log'.first_file ≡ log.first_file → log_of log.first_file now' ≡ with_more (unforced log) (log_of log.first_file now) → unforced log' ≡ [] → (forced_of log' now' ≡ trail_of log now) × (trail_of log' now' ≡ trail_of log now)
@@ -107,9 +104,6 @@ all_forced log log' now now' first found none =
       forced,
       ap (λ es. entries_in (with_more es (log_of log'.first_file now'))) none ∙ ap entries_in (more_none (log_of log'.first_file now')) ∙ forced,
     )
-
-pub either_switched : (first : ℕ) (r : Standing) (es : List Entry) (may : Outcomes) → CrashLeavesLogOr first r es may → CrashLeavesSwitched first r es may
-either_switched first r es may leaves files left = ⊎_elim (λ same. inl same) (λ more. inr (inl more)) (leaves files left)
 
 pub kept_at : (first first' : ℕ) (now : Files) (may : Outcomes) → first' ≡ first → ((files : Files) → MayLeave may files → log_of first files ≡ log_of first now) → (files : Files) → MayLeave may files → log_of first' files ≡ log_of first' now
 kept_at first first' now may same kept = subst (λ k. (files : Files) → MayLeave may files → log_of k files ≡ log_of k now) (sym same) kept

@@ -3,6 +3,7 @@ use Rattle.std.proofs.Common.{◌≡◌, ◌<◌, ◌≤◌, ◌+◌, ℕ, List,
 use Rattle.std.specs.Prelude.{OnOk}
 use Rattle.std.proofs.lemmas.List.{append-nil, drop-drop}
 use Rattle.tt_disk.specs.declared.volume.Name.TheVariants.{Log}
+use Rattle.tt_disk.specs.Volume.{Files, File}
 use Rattle.tt_value.specs.declared.position.Position.{Position}
 use Rattle.tt_record.specs.declared.entry.Entry.{Entry}
 use Rattle.tt_record.specs.Place.{position}
@@ -16,7 +17,7 @@ use Rattle.tt_log.specs.declared.file.BatchStep.{BatchStep}
 use Rattle.tt_log.specs.declared.file.BatchStep.TheVariants.{On, Ends}
 use Rattle.tt_log.specs.declared.refusal.LogRefusal.{LogRefusal}
 use Rattle.tt_log.specs.declared.opening.LogEnd.{LogEnd}
-use Rattle.tt_log.specs.Walk.{Files, Part, before, file_read, placed, in_front, on_part, log_of}
+use Rattle.tt_log.specs.Walk.{Part, before, file_read, placed, in_front, on_part, log_of}
 use Rattle.tt_log.specs.Batch.{rest_read}
 use Rattle.tt_log.specs.Log.{entries_in}
 use Rattle.tt_log.specs.File.{IsEnd}
@@ -68,7 +69,7 @@ handed_bad old now bytes n offset at es below s none is =
 
 -- ---- the entries of a file
 
-pub up_to_more : (n : ℕ) (old mid new : Took) (a b c : FileCursor) (file : Option (List ℕ)) → VisitsUpTo n old mid a b file → VisitsUpTo n mid new b c file → VisitsUpTo n old new a c file
+pub up_to_more : (n : ℕ) (old mid new : Took) (a b c : FileCursor) (file : File) → VisitsUpTo n old mid a b file → VisitsUpTo n mid new b c file → VisitsUpTo n old new a c file
 up_to_more n old mid new a b c file x y = record {
   es = x.es ++ y.es;
   goes = x.goes ∙ ap (before x.es) y.goes ∙ before_twice x.es y.es (rest_read n c.gate c.offset file);
@@ -77,14 +78,15 @@ up_to_more n old mid new a b c file x y = record {
       (takes_then old mid new (placed n a.offset x.es) (placed n b.offset y.es) x.takes y.takes);
 }
 
-pub went_on : (n : ℕ) (old new : Took) (at next : FileCursor) (file : Option (List ℕ)) (r : Result BatchStep LogRefusal) (w : BatchStep) → VisitsBatch n old new at file r → r ≡ Ok w → w ≡ On next → VisitsUpTo n old new at next file
-went_on n old new at next file r w says is one =
-    let P : Result BatchStep LogRefusal → Type 0 = λ q. VisitsBatch n old new at file q in
+pub went_on : {T : Type 0} (visited : T → Took) (a b : T) (n : ℕ) (at next : FileCursor) (file : File) (r : Result BatchStep LogRefusal) (w : BatchStep) → VisitsBatch n visited a b at r file → r ≡ Ok w → w ≡ On next → VisitsUpTo n (visited a) (visited b) at next file
+went_on visited a b n at next file r w says is one =
+    let P : Result BatchStep LogRefusal → Type 0 = λ q. VisitsBatch n visited a b at q file in
     subst P (is ∙ ap (λ (k : BatchStep). Ok k) one) says
 
-pub went_to_end : (n : ℕ) (old new : Took) (at : FileCursor) (end : FileEnd) (file : Option (List ℕ)) (r : Result BatchStep LogRefusal) (w : BatchStep) → VisitsBatch n old new at file r → r ≡ Ok w → w ≡ Ends end → (rest_read n at.gate at.offset file ≡ Ok ([], end.switched)) × Visits old new []
-went_to_end n old new at end file r w says is one =
-    let P : Result BatchStep LogRefusal → Type 0 = λ q. VisitsBatch n old new at file q in
+pub went_to_end : {T : Type 0} (visited : T → Took) (a b : T) (n : ℕ) (at : FileCursor) (end : FileEnd) (file : File) (r : Result BatchStep LogRefusal) (w : BatchStep) → VisitsBatch n visited a b at r file → r ≡ Ok w → w ≡ Ends end
+    → (rest_read n at.gate at.offset file ≡ Ok ([], end.switched)) × Visits (visited a) (visited b) []
+went_to_end visited a b n at end file r w says is one =
+    let P : Result BatchStep LogRefusal → Type 0 = λ q. VisitsBatch n visited a b at q file in
     subst P (is ∙ ap (λ (k : BatchStep). Ok k) one) says
 
 abbrev whole_part : List Entry → Bool → Part
@@ -93,7 +95,7 @@ whole_part es switched = Ok (es, switched)
 same_part : (es fs : List Entry) (a b : Bool) → whole_part es a ≡ whole_part fs b → es ≡ fs
 same_part es fs a b is = let e : ◌≡◌ {A = List Entry × Bool} (es, a) (fs, b) = cc in ap (λ (p : List Entry × Bool). p.0) e
 
-pub up_to_end : (n : ℕ) (old mid new : Took) (at : FileCursor) (end : FileEnd) (file : Option (List ℕ)) → VisitsUpTo n old mid at_first at file → (rest_read n at.gate at.offset file ≡ Ok ([], end.switched)) × Visits mid new [] → VisitsPart n old new (rest_read n 16 0 file)
+pub up_to_end : (n : ℕ) (old mid new : Took) (at : FileCursor) (end : FileEnd) (file : File) → VisitsUpTo n old mid at_first at file → (rest_read n at.gate at.offset file ≡ Ok ([], end.switched)) × Visits mid new [] → VisitsPart n old new (rest_read n 16 0 file)
 up_to_end n old mid new at end file x ends es switched is =
     let whole : rest_read n 16 0 file ≡ Ok (x.es ++ [], end.switched) = x.goes ∙ ap (before x.es) ends.0 in
     let same : x.es ≡ es = sym (append-nil x.es) ∙ same_part (x.es ++ []) es end.switched switched (sym whole ∙ is) in

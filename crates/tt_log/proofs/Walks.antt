@@ -2,13 +2,14 @@
 use Rattle.std.proofs.Common.{◌≡◌, ◌≤◌, ◌<◌, ◌+◌, ℕ, zero, suc, List, [], ◌∷◌, ◌++◌, refl, sym, ap, ◌∙◌, subst, true, false, arith, append_assoc, Option, Result, Ok, Err}
 use Rattle.std.proofs.lemmas.List.{append-nil}
 use Rattle.tt_disk.specs.declared.volume.Name.TheVariants.{Log}
+use Rattle.tt_disk.specs.Volume.{Files, File}
 use Rattle.tt_record.specs.declared.entry.Entry.{Entry}
 use Rattle.tt_value.specs.declared.position.Position.{Position}
 use Rattle.tt_record.specs.Entry.{length_of}
 use Rattle.tt_log.specs.Lengths.{total}
 use Rattle.tt_log.proofs.Sums.{total_more}
 use Rattle.tt_log.specs.declared.refusal.LogRefusal.{LogRefusal}
-use Rattle.tt_log.specs.Walk.{Files, Part, file_read, LogContents, placed, in_front, on_part, walk, with_more, switched}
+use Rattle.tt_log.specs.Walk.{Part, file_read, LogContents, placed, in_front, on_part, walk, with_more, switched}
 use Rattle.tt_record.specs.Place.{position}
 use Rattle.tt_log.proofs.Later.{found_ok, same_found}
 
@@ -56,7 +57,7 @@ last_later most n files found es deep reads l is = record {
   is = is ∙ ap (λ (f : LogContents). record { entries = placed n 0 es ++ f.entries; end = f.end }) l.is
       ∙ ap (λ (ps : List (Position × Entry)). record { entries = ps; end = position l.last (total l.es) }) (sym (append_assoc (placed n 0 es) l.front (placed l.last 0 l.es)));
   goes = λ others same.
-      ap (λ (o : Option (List ℕ)). on_part n (file_read n o) (walk most (n + 1) others)) (same n (omega (arith, l.above)))
+      ap (λ (o : File). on_part n (file_read n o) (walk most (n + 1) others)) (same n (omega (arith, l.above)))
       ∙ ap (λ p. on_part n p (walk most (n + 1) others)) reads
       ∙ ap (in_front (placed n 0 es)) (l.goes others same)
       ∙ in_front_twice (placed n 0 es) l.front (walk (suc l.left) l.last others);

@@ -2,23 +2,23 @@
 use Rattle.std.proofs.Common.{◌≡◌, ◌∙◌, ℕ, List, ◌∷◌, true, false, Option, Some, None, refl, sym, ap, subst}
 use Rattle.tt_disk.specs.declared.volume.Name.{Name}
 use Rattle.std.specs.Prelude.{IsOk}
-use Rattle.tt_disk.specs.Volume.{Keeps}
+use Rattle.tt_disk.specs.Volume.{Keeps, Files, Outcomes}
 use Rattle.tt_gate.specs.Laws.{ready_kept}
 use Rattle.tt_record.specs.Place.{end_of, position_of}
 use Rattle.tt_value.specs.declared.position.Position.{Position}
 use Rattle.tt_log.specs.declared.log.Log.{Log}
 use Rattle.tt_log.specs.declared.scan.Scan.{Scan}
-use Rattle.tt_log.specs.Walk.{Files, log_of}
+use Rattle.tt_log.specs.Walk.{log_of}
 use Rattle.tt_log.specs.Log.{IsOpen, IsWhole, walk_end}
 use Rattle.tt_log.specs.Scan.{IsScanning}
 use Rattle.tt_log.specs.Placement.{placed_then, all_placed}
 
 -- an open log's files read without damage
-pub open_whole : (log : Log) (now : Files) (may : Name → Option (List ℕ) → Type 0) → IsOpen log now may → IsWhole log now
+pub open_whole : (log : Log) (now : Files) (may : Outcomes) → IsOpen log now may → IsWhole log now
 open_whole log now may open_log = (open_log.whole, open_log.end)
 
 -- over a call that changes no file a log stays as it is
-pub open_kept : (log : Log) (a b : Files) (may_a may_b : Name → Option (List ℕ) → Type 0) → Keeps a b may_a may_b → IsOpen log a may_a → IsOpen log b may_b
+pub open_kept : (log : Log) (a b : Files) (may_a may_b : Outcomes) → Keeps a b may_a may_b → IsOpen log a may_a → IsOpen log b may_b
 open_kept log a b may_a may_b keeps is =
     let same : b ≡ a = λ i n. keeps.reads n i in
     record {
@@ -32,7 +32,7 @@ open_kept log a b may_a may_b keeps is =
     }
 
 -- over a call that changes no file a scan stays as it is
-pub scan_kept : (scan : Scan) (log : Log) (a b : Files) (may_a may_b : Name → Option (List ℕ) → Type 0) → Keeps a b may_a may_b → IsScanning scan log a → IsScanning scan log b
+pub scan_kept : (scan : Scan) (log : Log) (a b : Files) (may_a may_b : Outcomes) → Keeps a b may_a may_b → IsScanning scan log a → IsScanning scan log b
 scan_kept scan log a b may_a may_b keeps is =
     let same : b ≡ a = λ i n. keeps.reads n i in
     subst (λ (files : Files). IsScanning scan log files) (sym same) is

@@ -1,31 +1,26 @@
--- The limits of a log.
+-- The limits of a log, each stated here alone; the numbers of its files end at `log_files_end` of `tt_record`.
 use Rattle.std.specs.Prelude.{◌^◌, ℕ}
-use Rattle.tt_record.specs.Limits.{log_files_end}
 
--- the numbers of a log's files lie below
-abbrev pub LOG_FILES_END : ℕ
-LOG_FILES_END = log_files_end
-
--- the greatest of them, from which no Switch leads on
-abbrev pub LAST_LOG_FILE : ℕ
-LAST_LOG_FILE = 999999
+-- the greatest number of a log file, from which no Switch leads on
+abbrev pub last_log_file : ℕ
+last_log_file = 999999
 
 -- the numbers that the name of a log file can have lie below
-abbrev pub LOG_NAMES_END : ℕ
-LOG_NAMES_END = 2 ^ 32
+abbrev pub log_names_end : ℕ
+log_names_end = 2 ^ 32
 
 -- the fewest bytes that a file may be opened with for its entries
-abbrev pub FILE_LEAST : ℕ
-FILE_LEAST = 8192
+abbrev pub file_least : ℕ
+file_least = 8192
 
 -- the most bytes that the entries of one file have together, the Switch not counted
-abbrev pub FILE_MOST : ℕ
-FILE_MOST = 67108864
+abbrev pub file_most : ℕ
+file_most = 67108864
 
 -- the fewest bytes of a buffer
-abbrev pub BUFFER_LEAST : ℕ
-BUFFER_LEAST = 4096
+abbrev pub buffer_least : ℕ
+buffer_least = 4096
 
 -- the most bytes of a buffer
-abbrev pub BUFFER_MOST : ℕ
-BUFFER_MOST = 1048576
+abbrev pub buffer_most : ℕ
+buffer_most = 1048576

@@ -1,6 +1,7 @@
 -- What a crash leaves of a log, and what a Log stands for.
-use Rattle.std.specs.Prelude.{◌≡◌, ◌++◌, ◌⊎◌, ◌<◌, ◌≤◌, ◌+◌, ◌&&◌, false, ℕ, List, [], take, length, nat_eq, nat_le, nat_lt, not, is_some, ◌||◌, Bool, true, if◌then◌else◌, Option, Some, None, Result, Ok, Err, IsOk}
+use Rattle.std.specs.Prelude.{◌≡◌, ◌++◌, ◌⊎◌, ◌<◌, ◌≤◌, ◌+◌, ◌&&◌, false, ℕ, List, [], take, length, nat_eq, nat_le, nat_lt, not, is_some, ◌||◌, Bool, true, if◌then◌else◌, Option, Some, None, Result, Ok, Err, IsOk, IfOk, OnOk, OnErr, max}
 use Rattle.tt_disk.specs.declared.volume.Name.{Name}
+use Rattle.tt_disk.specs.Volume.{Files, Outcomes, File}
 use Rattle.tt_disk.specs.declared.volume.Name.TheVariants.{Ds, Log as LogFile, SetImage, SetLog}
 use Rattle.tt_gate.specs.GateFile.{IsReady}
 use Rattle.tt_record.specs.declared.entry.Entry.{Entry}
@@ -10,8 +11,8 @@ use Rattle.tt_record.specs.Entry.{entry_bytes, length_of, IsEntry, IsBody}
 use Rattle.tt_log.specs.Lengths.{total}
 use Rattle.tt_log.specs.declared.log.Log.{Log}
 use Rattle.tt_log.specs.declared.refusal.LogRefusal.{LogRefusal}
-use Rattle.tt_log.specs.Walk.{Files, LogContents, log_of, with_more, switched, no_switch}
-use Rattle.tt_record.specs.Place.{position_of, position}
+use Rattle.tt_log.specs.Walk.{LogContents, log_of, with_more, switched, no_switch}
+use Rattle.tt_record.specs.Place.{end_of, position_of, position}
 
 -- what a Log shows: the number of the file that it begins with
 abbrev pub first_file_of : Log → ℕ
@@ -34,20 +35,12 @@ abbrev pub buffer_size_of : Log → ℕ
 buffer_size_of log = length log.buffer.items
 
 -- these files may be what a crash leaves
-abbrev pub MayLeave : (Name → Option (List ℕ) → Type 0) → Files → Type 0
+abbrev pub MayLeave : Outcomes → Files → Type 0
 MayLeave may files = (name : Name) → may name (files name)
 
 -- in every map of files that a crash may leave, the walk from this file finds just this
-abbrev pub CrashLeavesLog : ℕ → Result LogContents LogRefusal → (Name → Option (List ℕ) → Type 0) → Type 0
+abbrev pub CrashLeavesLog : ℕ → Result LogContents LogRefusal → Outcomes → Type 0
 CrashLeavesLog first found may = (files : Files) → MayLeave may files → log_of first files ≡ found
-
--- in every map of files that a crash may leave, the walk from this file finds this, or this and all of these entries
-abbrev pub CrashLeavesLogOr : ℕ → Result LogContents LogRefusal → List Entry → (Name → Option (List ℕ) → Type 0) → Type 0
-CrashLeavesLogOr first found es may = (files : Files) → MayLeave may files → (log_of first files ≡ found) ⊎ (log_of first files ≡ with_more es found)
-
--- A crash leaves the log as found, or with all of these entries; with all of them the end may be the start of the next file.
-abbrev pub CrashLeavesSwitched : ℕ → Result LogContents LogRefusal → List Entry → (Name → Option (List ℕ) → Type 0) → Type 0
-CrashLeavesSwitched first found es may = (files : Files) → MayLeave may files → (log_of first files ≡ found) ⊎ ((log_of first files ≡ with_more es found) ⊎ (log_of first files ≡ switched (with_more es found)))
 
 abbrev pub walk_end : Result LogContents LogRefusal → Position
 walk_end (Ok found) = found.end
@@ -60,6 +53,10 @@ or_none None = []
 -- the entries that aren't forced yet
 abbrev pub unforced : Log → List Entry
 unforced log = or_none (entries_of (take log.buffered log.buffer.items))
+
+-- whether some aren't
+abbrev pub has_unforced : Log → Bool
+has_unforced log = nat_lt 0 log.buffered
 
 -- how many bytes they have
 abbrev pub waiting_bytes : Log → ℕ
@@ -111,10 +108,69 @@ place_for log e = position_of (write_position_of log) (length_of e) (file_size_o
 abbrev pub force_position_with : Log → Entry → Position
 force_position_with log e = if forces_earlier log e then write_position_of log else force_position_of log
 
+-- the entries that still aren't forced, where room is made for an entry
+abbrev pub unforced_with : Log → Entry → List Entry
+unforced_with log e = if forces_earlier log e then [] else unforced log
+
 -- the buffer and the file have room for an entry
 abbrev pub HasRoomFor : Entry → Log → Type 0
 HasRoomFor e log =
     (log.buffered + length_of e ≤ length log.buffer.items) × (log.forced_bytes + log.buffered + length_of e ≤ log.file_size)
+
+-- A log that was just opened: where it begins, its sizes in bytes, and that all its entries are forced.
+pub record IsFresh (file file_size buffer_size : ℕ) (log : Log) : Type 0 where
+  pub first : first_file_of log ≡ file
+  pub sizes : HasSizes file_size buffer_size log
+  pub force : force_position_of log ≡ write_position_of log
+  pub count : waiting_bytes log ≡ 0
+
+-- What an append makes of a log's positions and sizes, and of the entries that wait.
+pub record Appends {E : Type 0} (entry : Entry) (old new : Log) (result : Result Position E) : Type 0 where
+  -- the position that is answered is where the entry is placed
+  pub place : IfOk result (λ at. place_for old entry ≡ Some at)
+  -- the log ends behind the entry
+  pub write : IfOk result (λ at. write_position_of new ≡ end_of at (length_of entry))
+  -- all before the entry is forced, where it begins a file or finds no room in the buffer
+  pub force : OnOk result (force_position_of new ≡ force_position_with old entry)
+  -- answered or failed, the log begins with the same file and has the same sizes
+  pub sizes : KeepsSizes old new
+  -- where it failed, what waited to be forced still waits, or all is forced
+  pub failed : OnErr result (StandsStill old new ⊎ IsForced old new)
+
+-- What a force makes of a log's positions and sizes, and of the entries that wait.
+pub record Forces {T E : Type 0} (old new : Log) (result : Result T E) : Type 0 where
+  -- where it was answered, all entries are forced
+  pub forced : OnOk result (IsForced old new)
+  -- where it failed, what wasn't forced still isn't
+  pub unchanged : OnErr result (StandsStill old new)
+
+-- What making room for an entry makes of a log as a value.
+pub record MakesRoom {T E : Type 0} (entry : Entry) (old new : Log) (result : Result T E) : Type 0 where
+  pub room : OnOk result (HasRoomFor entry new)
+  -- the entry is placed where the log ends
+  pub write : OnOk result (place_for old entry ≡ Some (write_position_of new))
+  pub force : OnOk result (force_position_of new ≡ force_position_with old entry)
+  pub sizes : KeepsSizes old new
+  pub failed : OnErr result (StandsStill old new ⊎ IsForced old new)
+
+-- What going on in the next file makes of a log as a value.
+pub record SwitchesFile {T E : Type 0} (old new : Log) (result : Result T E) : Type 0 where
+  pub number : OnOk result (current_file_of new ≡ current_file_of old + 1)
+  pub start : OnOk result (new.forced_bytes ≡ 0)
+  pub force : OnOk result (force_position_of new ≡ write_position_of old)
+  pub count : OnOk result (waiting_bytes new ≡ 0)
+  pub sizes : KeepsSizes old new
+  pub failed : OnErr result (StandsStill old new ⊎ IsForced old new)
+
+-- The log begins with this file, where it began before it, and says else the same.
+pub record BeginsFrom (file : ℕ) (old new : Log) : Type 0 where
+  pub first : first_file_of new ≡ max (first_file_of old) file
+  pub current : current_file_of new ≡ current_file_of old
+  pub write : write_position_of new ≡ write_position_of old
+  pub force : force_position_of new ≡ force_position_of old
+  pub waiting : unforced new ≡ unforced old
+  pub file_size : file_size_of new ≡ file_size_of old
+  pub buffer_size : buffer_size_of new ≡ buffer_size_of old
 
 -- an entry is put into the buffer
 pub record Puts (e : Entry) (old new : Log) : Type 0 where
@@ -136,7 +192,7 @@ room_made log e r =
     else (if nat_lt (length log.buffer.items) (log.buffered + length_of e) then with_more (unforced log) r else r)
 
 -- The log's files stand as its last call left them: what is found from its first file on ends in the current one.
-pub record IsOpen (log : Log) (now : Files) (may : Name → Option (List ℕ) → Type 0) : Type 0 where
+pub record IsOpen (log : Log) (now : Files) (may : Outcomes) : Type 0 where
   pub gate : IsReady log.file now may
   pub fresh : log.file.staged ≡ 0
   pub body : IsBody (take log.buffered log.buffer.items) (unforced log)
@@ -150,9 +206,9 @@ abbrev pub IsWhole : Log → Files → Type 0
 IsWhole log now = IsOk (log_of log.first_file now) × (walk_end (log_of log.first_file now) ≡ position log.current_file log.forced_bytes)
 
 -- all but two files are as they were
-pub record OnlyTwo (one two : Name) (old new : Files) (may_old may_new : Name → Option (List ℕ) → Type 0) : Type 0 where
+pub record OnlyTwo (one two : Name) (old new : Files) (may_old may_new : Outcomes) : Type 0 where
   pub reads : (n : Name) → ¬ (n ≡ one) → ¬ (n ≡ two) → new n ≡ old n
-  pub crash : (n : Name) → ¬ (n ≡ one) → ¬ (n ≡ two) → (c : Option (List ℕ)) → may_new n c → may_old n c
+  pub crash : (n : Name) → ¬ (n ≡ one) → ¬ (n ≡ two) → (c : File) → may_new n c → may_old n c
 
 -- the entries that are found, with their positions
 abbrev pub entries_in : Result LogContents LogRefusal → List (Position × Entry)
@@ -168,7 +224,7 @@ abbrev pub trail_of : Log → Files → List (Position × Entry)
 trail_of log now = entries_in (with_more (unforced log) (log_of log.first_file now))
 
 -- in every map of files that a crash may leave, the walk from the log's first file gives just what is forced
-abbrev pub CrashLeavesForced : Log → Files → (Name → Option (List ℕ) → Type 0) → Type 0
+abbrev pub CrashLeavesForced : Log → Files → Outcomes → Type 0
 CrashLeavesForced log now may = CrashLeavesLog log.first_file (log_of log.first_file now) may
 
 -- the walk gave these entries, without damage, to this end or to the start of the next file
@@ -178,20 +234,20 @@ pub record Gave (r : Result LogContents LogRefusal) (es : List (Position × Entr
   pub end : (walk_end r ≡ at) ⊎ (walk_end r ≡ position (at.file + 1) 0)
 
 -- in every map of files that a crash may leave, the walk from the log's first file gives what is forced, or all entries
-abbrev pub CrashLeavesForcedOrAll : Log → Files → (Name → Option (List ℕ) → Type 0) → Type 0
+abbrev pub CrashLeavesForcedOrAll : Log → Files → Outcomes → Type 0
 CrashLeavesForcedOrAll log now may = (files : Files) → MayLeave may files → (log_of log.first_file files ≡ log_of log.first_file now) ⊎ Gave (log_of log.first_file files) (trail_of log now) (write_position_of log)
 
 -- a file is as it was, and a crash leaves of it only what it could leave before
-pub record IsUntouched (name : Name) (old new : Files) (may_old may_new : Name → Option (List ℕ) → Type 0) : Type 0 where
+pub record IsUntouched (name : Name) (old new : Files) (may_old may_new : Outcomes) : Type 0 where
   pub reads : new name ≡ old name
-  pub crash : (c : Option (List ℕ)) → may_new name c → may_old name c
+  pub crash : (c : File) → may_new name c → may_old name c
 
 -- in every map of files that a crash may leave, the walk gives all entries
-abbrev pub CrashLeavesAll : Log → Files → (Name → Option (List ℕ) → Type 0) → Type 0
+abbrev pub CrashLeavesAll : Log → Files → Outcomes → Type 0
 CrashLeavesAll log now may = (files : Files) → MayLeave may files → Gave (log_of log.first_file files) (trail_of log now) (write_position_of log)
 
 -- the file behind the current one is untouched; or all entries are forced, where a crash before could leave just the forced ones
-abbrev pub ForcedBeforeNextFile : Log → Files → Files → (Name → Option (List ℕ) → Type 0) → (Name → Option (List ℕ) → Type 0) → Type 0
+abbrev pub ForcedBeforeNextFile : Log → Files → Files → Outcomes → Outcomes → Type 0
 ForcedBeforeNextFile log old new may_old may_new = IsUntouched (LogFile (log.current_file + 1)) old new may_old may_new ⊎ (CrashLeavesForced log old may_old → CrashLeavesAll log old may_new)
 
 -- the log files that are there: those that were, and one with this number
@@ -210,9 +266,9 @@ is_between from end (SetImage k) = false
 is_between from end (SetLog k) = false
 
 -- all files but those of a range are as they were
-pub record OnlyBetween (from end : ℕ) (old new : Files) (may_old may_new : Name → Option (List ℕ) → Type 0) : Type 0 where
+pub record OnlyBetween (from end : ℕ) (old new : Files) (may_old may_new : Outcomes) : Type 0 where
   pub reads : (n : Name) → is_between from end n ≡ false → new n ≡ old n
-  pub crash : (n : Name) → is_between from end n ≡ false → (c : Option (List ℕ)) → may_new n c → may_old n c
+  pub crash : (n : Name) → is_between from end n ≡ false → (c : File) → may_new n c → may_old n c
 
 -- Of the log files of a range those below some number are gone, and those above it are as they were.
 pub record GoneInOrder (from end : ℕ) (old new : Files) : Type 0 where

@@ -1,19 +1,24 @@
 -- Where entries start.
 use Rattle.std.specs.Prelude.{◌≡◌, ◌≤◌, ◌+◌, ◌==◌, ◌||◌, ℕ, List, [], ◌∷◌, length, drop, Bool, false, if◌then◌else◌, Some, Result, Ok, Err}
 use Rattle.tt_disk.specs.declared.volume.Name.TheVariants.{Log}
+use Rattle.tt_disk.specs.Volume.{Files}
 use Rattle.tt_value.specs.declared.position.Position.{Position}
 use Rattle.tt_record.specs.declared.entry.Entry.{Entry}
 use Rattle.tt_record.specs.Entry.{length_of}
-use Rattle.tt_record.specs.Read.{entry_at}
+use Rattle.tt_record.specs.Read.{entries_of, entry_at}
 use Rattle.tt_log.specs.Lengths.{total}
 use Rattle.tt_log.specs.declared.refusal.LogRefusal.{LogRefusal}
 use Rattle.tt_log.specs.declared.refusal.LogRefusal.TheVariants.{BadBatch}
-use Rattle.tt_log.specs.Walk.{Files, LogContents, Part, file_read, log_of}
+use Rattle.tt_log.specs.Walk.{LogContents, Part, file_read, log_of}
 
 -- one of these entries, of which the first stands at an offset, starts at k
 abbrev pub starts_at : ℕ → ℕ → List Entry → Bool
 starts_at k at [] = false
 starts_at k at (e ∷ es) = (at == k) || starts_at k (at + length_of e) es
+
+-- whether an entry starts at k of a body of whole entries, of which the first stands at an offset
+abbrev pub TellsStart : ℕ → ℕ → List ℕ → Bool → Type 0
+TellsStart k at bytes starts = (es : List Entry) → entries_of bytes ≡ Some es → total es ≡ length bytes → starts ≡ starts_at k at es
 
 -- an entry of a file with these starts at k, or they end there
 abbrev pub is_place : ℕ → List Entry → Bool

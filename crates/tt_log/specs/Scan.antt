@@ -1,6 +1,8 @@
 -- The entries that a scan still has to give.
-use Rattle.std.specs.Prelude.{◌≡◌, ◌<◌, ◌≤◌, ◌+◌, ◌-◌, ◌*◌, ℕ, List, [], ◌∷◌, length, drop, filter, nat_le, true, false, if◌then◌else◌, Option, Some, None, Result, Ok, Err, IsOk}
+use Rattle.std.specs.Prelude.{◌≡◌, ◌<◌, ◌≤◌, ◌+◌, ◌-◌, ◌*◌, ℕ, List, [], ◌∷◌, length, drop, filter, nat_le, true, false, if◌then◌else◌, Option, Some, None, Result, Ok, Err, IsOk, IfOk, IfErr}
 use Rattle.tt_disk.specs.Calls.{KeepsFiles}
+use Rattle.tt_disk.specs.Volume.{Files}
+use Rattle.tt_record.specs.Limits.{log_files_end}
 use Rattle.tt_disk.specs.declared.volume.Volume.{Ghosts}
 use Rattle.tt_disk.specs.declared.volume.Name.TheVariants.{Log as LogFile}
 use Rattle.tt_value.specs.declared.position.Position.{Position}
@@ -10,11 +12,13 @@ use Rattle.tt_record.specs.Place.{position}
 use Rattle.tt_log.specs.Lengths.{total}
 use Rattle.tt_log.specs.declared.log.Log.{Log}
 use Rattle.tt_log.specs.declared.scan.Scan.{Scan}
+use Rattle.tt_log.specs.declared.scan.Loaded.{Loaded}
+use Rattle.tt_log.specs.declared.scan.Loaded.TheVariants.{Body, Switched, Nothing}
 use Rattle.tt_log.specs.declared.refusal.LogRefusal.{LogRefusal}
-use Rattle.tt_log.specs.Walk.{Files, LogContents, Part, file_read, placed, in_front, log_of, is_from}
+use Rattle.tt_log.specs.declared.refusal.LogRefusal.TheVariants.{NoMemory}
+use Rattle.tt_log.specs.Walk.{LogContents, Part, file_read, placed, in_front, log_of, is_from}
 use Rattle.tt_log.specs.Batch.{rest_read, IsHeaded}
-use Rattle.tt_log.specs.Log.{or_none, entries_in, walk_end}
-use Rattle.tt_log.specs.Limits.{LOG_FILES_END}
+use Rattle.tt_log.specs.Log.{current_file_of, entries_in, first_file_of, forced_of, or_none, walk_end}
 use Rattle.tt_gate.specs.Limits.{first_gate_at, longest_file}
 
 -- the entries of a body that was read
@@ -46,12 +50,22 @@ pub record IsGoing (scan : Scan) (files : Files) : Type 0 where
   pub long : total (waiting scan) ≡ length scan.body.items - scan.at
   pub whole : IsOk (ahead scan files)
 
+-- where it gives the first entry
+abbrev pub first_position_of : Scan → Position
+first_position_of scan = scan.from
+
+-- the scan stands in the same file behind the same gate, with the same body
+pub record StaysInBatch (old new : Scan) : Type 0 where
+  pub file : new.file ≡ old.file
+  pub gate : new.gate ≡ old.gate
+  pub body : new.body ≡ old.body
+
 -- a step of a scan, which goes on with the same entries ahead, and changes no file
 pub record StepsOn {V : Type 0} (g : Ghosts V) (old new : Scan) (before after : V) : Type 0 where
   pub going : g.told → IsGoing new (g.now after)
   pub same : g.told → ahead new (g.now after) ≡ ahead old (g.now before)
   pub from : new.from ≡ old.from
-  pub file : new.file < LOG_FILES_END
+  pub file : new.file < log_files_end
   pub keeps : KeepsFiles g before after
 
 -- no entry stands ahead
@@ -87,14 +101,58 @@ abbrev pub given : Option (Position × Entry) → List (Position × Entry) → L
 given None rest = []
 given (Some p) rest = p ∷ rest
 
+-- what a step over one entry gives, in front of the rest
 abbrev pub with_given : Option (Position × Entry) → List (Position × Entry) → List (Position × Entry)
 with_given None rest = rest
 with_given (Some p) rest = p ∷ rest
 
 -- a bound on how much can still be read
 abbrev pub most_left : Scan → ℕ
-most_left scan = (LOG_FILES_END - scan.file) * longest_file + (longest_file - scan.gate) + (length scan.body.items - scan.at)
+most_left scan = (log_files_end - scan.file) * longest_file + (longest_file - scan.gate) + (length scan.body.items - scan.at)
 
 -- less is left to read
 abbrev pub HasLess : Scan → Scan → Type 0
 HasLess old new = most_left new < most_left old
+
+-- What was read of a volume behind a gate.
+pub record LoadsOn {V : Type 0} (g : Ghosts V) (old new : Scan) (volume : V) (loaded : Loaded) : Type 0 where
+  pub body : loaded ≡ Body → HasMore new
+  pub switched : loaded ≡ Switched → Switches old new
+  pub nothing : loaded ≡ Nothing → EndsOn g old volume
+  pub fewer : ¬ (loaded ≡ Nothing) → HasLess old new
+
+-- An entry was taken from those ahead, or memory was wanting.
+pub record TakesAhead (old new : Scan) (files : Files) (result : Result (Position × Entry) LogRefusal) : Type 0 where
+  pub going : IsGoing new files
+  pub gives : IfOk result (λ p. ahead old files ≡ in_front (p ∷ []) (ahead new files))
+  pub refused : IfErr result (λ e. e ≡ NoMemory)
+
+-- An entry was taken, which counts unless it stands before the scan's first position, or memory was wanting.
+pub record TakesHere (old new : Scan) (files : Files) (result : Result (Option (Position × Entry)) LogRefusal) : Type 0 where
+  pub going : IsGoing new files
+  pub end : (walk_end (ahead new files)).file ≡ (walk_end (ahead old files)).file
+  pub gives : IfOk result (λ o. from_here old files ≡ with_given o (from_here new files))
+  pub refused : IfErr result (λ e. e ≡ NoMemory)
+
+-- What was answered was the first of what was to give; after a refusal all of it is still to give.
+pub record Gives (before after : List (Position × Entry)) (result : Result (Option (Position × Entry)) LogRefusal) : Type 0 where
+  pub next : IfOk result (λ o. before ≡ given o after)
+  pub still : IfErr result (λ e. after ≡ before)
+
+-- the next of the entries that a scan of the log still had to give
+abbrev pub GivesOn : {V : Type 0} → Ghosts V → Log → Scan → V → Scan → V → Result (Option (Position × Entry)) LogRefusal → Type 0
+GivesOn g log old before new after result = g.told → Gives (left old log (g.now before)) (left new log (g.now after)) result
+
+-- the next of the entries ahead that don't stand before the scan's first position
+abbrev pub GivesHereOn : {V : Type 0} → Ghosts V → Scan → V → Scan → V → Result (Option (Position × Entry)) LogRefusal → Type 0
+GivesHereOn g old before new after result = g.told → Gives (from_here old (g.now before)) (from_here new (g.now after)) result
+
+-- The scan goes on, and the last file ahead is the one that was.
+pub record GoesOnOn {V : Type 0} (g : Ghosts V) (old : Scan) (before : V) (new : Scan) (after : V) : Type 0 where
+  pub going : g.told → IsGoing new (g.now after)
+  pub end : g.told → (walk_end (ahead new (g.now after))).file ≡ (walk_end (ahead old (g.now before))).file
+
+-- A scan of a log from a position on whose file isn't before the log's first one: below that one files may be gone.
+pub record Scans (log : Log) (from : Position) (now : Files) (scan : Scan) : Type 0 where
+  pub scanning : first_file_of log ≤ from.file → IsScanning scan log now
+  pub entries : first_file_of log ≤ from.file → from.file ≤ current_file_of log → left scan log now ≡ filter (is_from from) (forced_of log now)

@@ -1,6 +1,7 @@
 -- The entries of a log: those of one numbered file after the other.
 use Rattle.std.specs.Prelude.{◌+◌, ◌-◌, ◌&&◌, ◌||◌, ◌==◌, ℕ, zero, suc, List, [], ◌∷◌, ◌++◌, length, take, filter, nat_le, nat_lt, if◌then◌else◌, Bool, true, false, Option, Some, None, Result, Ok, Err}
-use Rattle.tt_disk.specs.Volume.{bytes_of}
+use Rattle.tt_disk.specs.Volume.{bytes_of, File, Files}
+use Rattle.tt_record.specs.Limits.{log_files_end}
 use Rattle.tt_disk.specs.declared.volume.Name.{Name}
 use Rattle.tt_disk.specs.declared.volume.Name.TheVariants.{Log}
 use Rattle.tt_gate.specs.declared.gate.GateRefusal.{GateRefusal}
@@ -14,14 +15,10 @@ use Rattle.tt_record.specs.Read.{entries_of}
 use Rattle.tt_record.specs.Place.{position}
 use Rattle.tt_record.specs.Entry.{length_of}
 use Rattle.tt_log.specs.Lengths.{total}
-use Rattle.tt_log.specs.Limits.{FILE_MOST, LAST_LOG_FILE, LOG_FILES_END}
+use Rattle.tt_log.specs.Limits.{file_most, last_log_file}
 use Rattle.tt_log.specs.declared.refusal.LogRefusal.{LogRefusal}
 use Rattle.tt_log.specs.declared.refusal.LogRefusal.TheVariants.{Gap, BadBatch}
 use Rattle.tt_gate.specs.Limits.{first_gate_at, header_length}
-
--- the files by name, as they read or as a crash may leave them
-abbrev pub Files : Type 0
-Files = Name → Option (List ℕ)
 
 abbrev pub is_switch : Entry → Bool
 is_switch (Change transaction place before after) = false
@@ -40,7 +37,7 @@ switches_to n (Change transaction place before after) = false
 switches_to n (Commit transaction) = false
 switches_to n (Abort transaction) = false
 switches_to n Mark = false
-switches_to n (Switch file) = (file == n + 1) && nat_lt n LAST_LOG_FILE
+switches_to n (Switch file) = (file == n + 1) && nat_lt n last_log_file
 
 abbrev pub switches : ℕ → List Entry → Bool
 switches n [] = false
@@ -63,7 +60,7 @@ after_switch (Err e) = Err e
 -- a batch of entries that fit into the file, behind so many bytes of others; or the Switch, behind which no batch may stand
 abbrev pub chosen : Bool → Bool → Bool → List Entry → ℕ → ℕ → ℕ → ℕ → Part → Part
 chosen plain switch last es n at next offset more =
-    if plain then (if nat_le (offset + total es) FILE_MOST then before es more else Err (BadBatch n at))
+    if plain then (if nat_le (offset + total es) file_most then before es more else Err (BadBatch n at))
     else (if switch then (if last then after_switch more else Err (BadBatch n next)) else Err (BadBatch n at))
 
 abbrev pub batch_read : ℕ → ℕ → ℕ → ℕ → Option (List Entry) → Bool → Part → Part
@@ -94,7 +91,7 @@ same_bytes [] (b ∷ bs) = false
 same_bytes (a ∷ as') [] = false
 same_bytes (a ∷ as') (b ∷ bs) = (a == b) && same_bytes as' bs
 
-abbrev pub part_of : ℕ → Option (List ℕ) → Result (List ℕ × List (List ℕ)) GateRefusal → Part
+abbrev pub part_of : ℕ → File → Result (List ℕ × List (List ℕ)) GateRefusal → Part
 part_of n file (Ok found) = if same_bytes found.0 (log_header n) then bodies_read n first_gate_at 0 found.1 (Ok ([], false)) else Err (Gap n)
 part_of n file (Err (GateBad at)) = if same_bytes (take header_length (bytes_of file)) (log_header n) then bodies_read n first_gate_at 0 (whole_bodies file) (Err (BadBatch n at)) else Err (Gap n)
 part_of n file (Err Absent) = Err (Gap n)
@@ -102,7 +99,7 @@ part_of n file (Err BadHeader) = Err (Gap n)
 part_of n file (Err GateFailed) = Err (Gap n)
 
 -- what a log file says, or its first damage
-unfoldable pub file_read : ℕ → Option (List ℕ) → Part
+unfoldable pub file_read : ℕ → File → Part
 file_read n file = part_of n file (gated file)
 
 -- entries with their positions, and where they end
@@ -128,7 +125,7 @@ walk (suc most) n files = on_part n (file_read n (files (Log n))) (walk most (n 
 
 -- the entries from file n on, or the damage
 unfoldable pub log_of : ℕ → Files → Result LogContents LogRefusal
-log_of n files = walk (LOG_FILES_END - n) n files
+log_of n files = walk (log_files_end - n) n files
 
 -- these entries behind what is found
 abbrev pub with_more : List Entry → Result LogContents LogRefusal → Result LogContents LogRefusal

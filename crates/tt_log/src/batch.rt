@@ -1,14 +1,14 @@
 //! One batch of a log file: what stands behind a gate. It is the entries of the batch, the Switch to the next file with
 //! nothing behind it, or nothing, where the gate is closed. Anything else is damage at that gate.
-ghost use Rattle.std.specs.Prelude.{◌≡◌, ◌⊎◌, ◌<◌, ◌≤◌, ◌+◌, ◌^◌, length, take, drop, IfOk, OnOk, IfErr, IsErrOf, Ok, Err};
+ghost use Rattle.std.specs.Prelude.{◌≡◌, ◌⊎◌, ◌<◌, ◌≤◌, ◌+◌, length, IfOk, OnOk, IfErr, IsErrOf, Ok, Err};
 ghost use Rattle.tt_disk.specs.declared.volume.Name.TheVariants.{Log as LogFile};
 ghost use Rattle.tt_gate.specs.Calls.{RoseWhereOn};
 ghost use Rattle.tt_disk.specs.Calls.{KeepsFiles};
 ghost use Rattle.tt_log.specs.Calls.{OfFile};
-ghost use Rattle.tt_disk.specs.Volume.{bytes_of, size_of};
+ghost use Rattle.tt_disk.specs.Volume.{size_of};
 ghost use Rattle.tt_gate.specs.Gate.{gate_in, EndsWithin};
 ghost use Rattle.tt_gate.specs.declared.gate.Gate.TheVariants.{Full};
-ghost use Rattle.tt_log.specs.Batch.{IsHeaded, IsNotHeaded, IsGateAt, IsAfterSwitch, IsBatch, IsFull, IsWithin, GateSays, refusal_of};
+ghost use Rattle.tt_log.specs.Batch.{IsPiece, IsHeaded, IsNotHeaded, IsGateAt, IsAfterSwitch, IsBatch, IsFull, IsWithin, GateSays, refusal_of};
 ghost use Rattle.tt_log.specs.declared.refusal.LogRefusal.TheVariants.{Failed};
 ghost use Rattle.tt_gate.specs.Limits.{longest_file};
 
@@ -81,8 +81,7 @@ fn read_body<V: Volume>(
 ) -> Result<Vec<u8>, LogRefusal>
     requires inside { OfFile V.Volume number volume.old (λ file. at + count ≤ size_of file) }
     requires some { 0 < count }
-    ensures bytes { OfFile V.Volume number volume.old (λ file.
-        IfOk result (λ body. body.items ≡ take count (drop at (bytes_of file)))) }
+    ensures bytes { OfFile V.Volume number volume.old (λ file. IfOk result (λ body. IsPiece at count file body.items)) }
     ensures long { IfOk result (λ body. length body.items ≡ count) }
     ensures refused { IfErr result (λ e. (e ≡ Failed) ⊎ (e ≡ LogRefusal.NoMemory)) }
     ensures keeps { KeepsFiles V.Volume volume.old volume.new }

@@ -2,8 +2,7 @@
 ghost use Rattle.std.specs.Prelude.{◌≡◌, ◌<◌, ◌≤◌, List, length, drop, IfOk, IfErr, IfSome, Some, None};
 ghost use Rattle.tt_record.specs.Read.{entry_at, entries_of};
 ghost use Rattle.tt_record.specs.declared.entry.Entry.{Entry};
-ghost use Rattle.tt_log.specs.Lengths.{total};
-ghost use Rattle.tt_log.specs.Opening.{HasEntry, starts_at};
+ghost use Rattle.tt_log.specs.Opening.{HasEntry, TellsStart, starts_at};
 
 use crate::body::read_entry_at;
 use crate::refusal::LogRefusal;
@@ -43,8 +42,7 @@ pub(crate) fn body_starts(
     offset: u32,
     wanted: u32,
 ) -> Result<bool, LogRefusal>
-    ensures starts { IfOk result (λ b. (es : List Entry) → entries_of bytes.now ≡ Some es → total es ≡ length bytes.now
-        → b ≡ starts_at wanted offset es) }
+    ensures starts { IfOk result (λ starts. TellsStart wanted offset bytes.now starts) }
     ensures refused { IfErr result (λ e. e ≡ LogRefusal.NoMemory) }
 {
     if wanted < offset {

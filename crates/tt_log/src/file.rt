@@ -1,21 +1,16 @@
 //! The entries of a log file, from its first gate to its last. Each batch is read once, and its entries are handed to a
 //! visitor before the next one is read.
-ghost use Rattle.std.specs.Prelude.{◌≡◌, ◌<◌, ◌≤◌, ◌+◌, ◌^◌, ◌||◌, ◌==◌, List, length, Some, IfOk, IfErr, IsErrOf, OnOk};
-ghost use Rattle.tt_disk.specs.declared.volume.Name.TheVariants.{Log as LogFile};
-ghost use Rattle.tt_gate.specs.Calls.{RoseWhereOn};
+ghost use Rattle.std.specs.Prelude.{◌≡◌, ◌<◌, ◌≤◌, ◌+◌, ◌||◌, ◌==◌, length, IfOk, IfErr, IsErrOf, OnOk};
 ghost use Rattle.tt_disk.specs.Calls.{KeepsFiles};
-ghost use Rattle.tt_log.specs.Calls.{OfFile};
-ghost use Rattle.tt_record.specs.declared.entry.Entry.{Entry};
-ghost use Rattle.tt_record.specs.Read.{entries_of};
-ghost use Rattle.tt_log.specs.Lengths.{total};
-ghost use Rattle.tt_log.specs.Opening.{starts_at};
-ghost use Rattle.tt_log.specs.Batch.{IsHeaded, rest_read};
-ghost use Rattle.tt_log.specs.Walk.{file_read, placed};
-ghost use Rattle.tt_log.specs.Limits.{FILE_MOST};
-ghost use Rattle.tt_log.specs.Visitor.{Visits, VisitsBatch, VisitsPart};
-ghost use Rattle.tt_log.specs.File.{IsFileEnd, IsReached, IsInRange, HasRead, StepsWithin, Closes, ClosesIfEnded};
+ghost use Rattle.tt_gate.specs.Calls.{RoseWhereOn};
+ghost use Rattle.tt_gate.specs.Limits.{longest_file};
+ghost use Rattle.tt_log.specs.Batch.{IsHeaded};
+ghost use Rattle.tt_log.specs.Calls.{OfFile, VisitsFileOn};
+ghost use Rattle.tt_log.specs.File.{IsBehind, IsFileEnd, IsReached, IsInRange, HasRead, StepsWithin, Closes, ClosesIfEnded};
+ghost use Rattle.tt_log.specs.Limits.{file_most};
+ghost use Rattle.tt_log.specs.Visitor.{VisitsBatch, VisitsBody};
+ghost use Rattle.tt_log.specs.Walk.{file_read};
 ghost use Rattle.tt_log.specs.declared.refusal.LogRefusal.TheVariants.{Failed};
-ghost use Rattle.tt_gate.specs.Limits.{first_gate_at, longest_file};
 
 use crate::batch::{Batch, check_header, read_batch};
 use crate::entry_offsets::body_starts;
@@ -62,13 +57,9 @@ fn deliver_batch<T: EntryVisitor>(
     visitor: &mut T,
 ) -> Result<FileCursor, LogRefusal>
     requires inside { at.gate + 9 + length body.now < longest_file }
-    requires room { at.offset + length body.now ≤ FILE_MOST }
-    ensures gate { IfOk result (λ next. next.gate ≡ at.gate + 9 + length body.now) }
-    ensures offset { IfOk result (λ next. next.offset ≡ at.offset + length body.now) }
-    ensures starts { IfOk result (λ next. (es : List Entry) → entries_of body.now ≡ Some es → total es ≡ length body.now
-        → next.starts ≡ (at.starts || starts_at wanted at.offset es)) }
-    ensures given { (es : List Entry) → entries_of body.now ≡ Some es
-        → OnOk result (Visits (T.visited visitor.old) (T.visited visitor.new) (placed number at.offset es)) }
+    requires room { at.offset + length body.now ≤ file_most }
+    ensures behind { IfOk result (λ next. IsBehind wanted at body.now next) }
+    ensures given { OnOk result (VisitsBody T.visited visitor.old visitor.new number at.offset body.now) }
     ensures refused { IfErr result (λ e. e ≡ LogRefusal.NoMemory) }
 {
     if let Err(_) = visit_body(alloc, body, number, at.offset, visitor) {
@@ -110,12 +101,11 @@ fn read_next_batch<V: Volume, T: EntryVisitor>(
     requires headed { OfFile V.Volume number volume.old (λ file. IsHeaded number file) }
     requires gate { (0 < at.gate) × (at.gate < longest_file) }
     requires reached { OfFile V.Volume number volume.old (λ file. IsReached wanted number file at) }
-    requires room { at.offset ≤ FILE_MOST }
+    requires room { at.offset ≤ file_most }
     ensures exact { OfFile V.Volume number volume.old (λ file. HasRead wanted number file result) }
     ensures closed { OfFile V.Volume number volume.old (λ file. IfOk result (ClosesIfEnded file)) }
     ensures within { IfOk result (λ went. StepsWithin number at.gate went) }
-    ensures given { OfFile V.Volume number volume.old (λ file.
-        VisitsBatch number (T.visited visitor.old) (T.visited visitor.new) at file result) }
+    ensures given { OfFile V.Volume number volume.old (VisitsBatch number T.visited visitor.old visitor.new at result) }
     ensures keeps { KeepsFiles V.Volume volume.old volume.new }
     ensures cause { RoseWhereOn V.Volume volume.old volume.new (IsErrOf result Failed) }
 {
@@ -141,9 +131,8 @@ fn read_batches<V: Volume, T: EntryVisitor>(
     visitor: &mut T,
 ) -> Result<FileEnd, LogRefusal>
     requires headed { OfFile V.Volume number volume.old (λ file. IsHeaded number file) }
-    ensures exact { OfFile V.Volume number volume.old (λ file. IsFileEnd wanted (rest_read number first_gate_at 0 file) result) }
-    ensures given { OfFile V.Volume number volume.old (λ file. OnOk result
-        (VisitsPart number (T.visited visitor.old) (T.visited visitor.new) (rest_read number first_gate_at 0 file))) }
+    ensures exact { OfFile V.Volume number volume.old (λ file. IsFileEnd wanted (file_read number file) result) }
+    ensures given { VisitsFileOn V.Volume T.EntryVisitor number volume.old visitor.old visitor.new result }
     ensures closed { OfFile V.Volume number volume.old (λ file. IfOk result (Closes file)) }
     ensures within { IfOk result (λ end. IsInRange number end) }
     ensures keeps { KeepsFiles V.Volume volume.old volume.new }
@@ -172,8 +161,7 @@ pub(crate) fn read_file<V: Volume, T: EntryVisitor>(
     visitor: &mut T,
 ) -> Result<FileEnd, LogRefusal>
     ensures exact { OfFile V.Volume number volume.old (λ file. IsFileEnd wanted (file_read number file) result) }
-    ensures given { OfFile V.Volume number volume.old (λ file. OnOk result
-        (VisitsPart number (T.visited visitor.old) (T.visited visitor.new) (file_read number file))) }
+    ensures given { VisitsFileOn V.Volume T.EntryVisitor number volume.old visitor.old visitor.new result }
     ensures closed { OfFile V.Volume number volume.old (λ file. IfOk result (Closes file)) }
     ensures within { IfOk result (λ end. IsInRange number end) }
     ensures keeps { KeepsFiles V.Volume volume.old volume.new }

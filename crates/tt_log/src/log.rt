@@ -4,14 +4,15 @@
 //! leaves all of it or nothing. Where an entry has no room in the current file, all before it are forced, the next file is made,
 //! and a Switch to it ends the old one: so the walk from the first file on finds each file, and no entry stands behind one that
 //! may be lost. An entry that finds no room in the buffer forces those before it.
-ghost use Rattle.std.specs.Prelude.{◌≡◌, ◌⊎◌, ◌+◌, ◌<◌, ◌≤◌, ◌∷◌, ◌++◌, ◌↔◌, [], filter, length, max, take, if◌then◌else◌, true, false};
-ghost use Rattle.std.specs.Prelude.{OnOk, OnErr, IfOk, IfErr, IsErrOf, IsSome, IsTrue, Some};
+ghost use Rattle.std.specs.Prelude.{◌≡◌, ◌+◌, ◌<◌, ◌≤◌, ◌∷◌, ◌++◌, ◌↔◌, [], length, take, true, false};
+ghost use Rattle.std.specs.Prelude.{OnOk, IfOk, IfErr, IsErrOf, IsSome, IsTrue};
 ghost use Rattle.tt_disk.specs.Calls.{KeepsFiles, ChangesOnly};
 ghost use Rattle.tt_disk.specs.declared.volume.Name.TheVariants.{Log as LogFile};
 ghost use Rattle.tt_record.specs.declared.entry.Entry.TheVariants.{Switch};
 ghost use Rattle.tt_record.specs.Entry.{entry_bytes, length_of, IsEntry, IsBody};
-ghost use Rattle.tt_record.specs.Place.{position, end_of};
-ghost use Rattle.tt_log.specs.Limits.{LOG_FILES_END, LOG_NAMES_END, FILE_LEAST, FILE_MOST, BUFFER_LEAST, BUFFER_MOST};
+ghost use Rattle.tt_record.specs.Limits.{log_files_end};
+ghost use Rattle.tt_record.specs.Place.{position};
+ghost use Rattle.tt_log.specs.Limits.{log_names_end, file_least, file_most, buffer_least, buffer_most};
 ghost use Rattle.tt_log.specs.Walk.{is_at_or_next};
 
 use crate::header::header;
@@ -48,38 +49,35 @@ pub struct Log {
     // How many bytes the entries of a file may have.
     file_size: u32,
     ghost named: { file.name ≡ LogFile current_file },
-    ghost numbers: { current_file < LOG_FILES_END },
+    ghost numbers: { current_file < log_files_end },
     ghost ordered: { first_file ≤ current_file },
     ghost room: { buffered ≤ length buffer.items },
-    ghost offsets: { forced_bytes + buffered ≤ FILE_MOST },
-    ghost sizes: { file_size ≤ FILE_MOST },
-    ghost wide: { BUFFER_LEAST ≤ length buffer.items },
-    ghost long: { FILE_LEAST ≤ file_size },
-    ghost buffers: { length buffer.items ≤ BUFFER_MOST },
+    ghost offsets: { forced_bytes + buffered ≤ file_most },
+    ghost sizes: { file_size ≤ file_most },
+    ghost wide: { buffer_least ≤ length buffer.items },
+    ghost long: { file_least ≤ file_size },
+    ghost buffers: { length buffer.items ≤ buffer_most },
     ghost forced: { is_at_or_next force (position current_file forced_bytes) ≡ true },
 }
 
 impl Log {
+    ghost use Rattle.tt_disk.specs.Volume.{Files};
     ghost use Rattle.tt_gate.specs.Calls.{HasCauseOn, RoseWhereOn};
-    ghost use Rattle.tt_log.specs.Calls.{OfFiles, IsOpenOn, HasForcedOn, HasTrailOn, IsEmptyOn, OpensOn, OpeningRefusedOn, KeepsForcedOn, ForcesAllOn};
-    ghost use Rattle.tt_log.specs.Calls.{SwitchesFileOn, MakesRoomOn, ForcesBeforeNextFileOn, ChangesTwoLogsOn, ChangesLogsOn, KeepsLogsOn};
-    ghost use Rattle.tt_log.specs.Calls.{AddsFileOn, AddsNoFileOn, GoneInOrderOn, HasNoLogBelowOn, HasNoLogAboveOn, HasNoLogOn, HasLogsOn};
-    ghost use Rattle.tt_log.specs.Calls.{CrashLeavesEmptyOn, CrashLeavesNoEntryOn, CrashLeavesOpenedOn, CrashLeavesForcedOrAllOn};
-    ghost use Rattle.tt_log.specs.Calls.{CrashAddsUnforcedOn, CrashSwitchesOn, forced_on, trail_on};
+    ghost use Rattle.tt_log.specs.Calls.{IsOpenOn, IsEmptyOn, OpensOn, OpeningRefusedOn, AppendsOn, ForcesOn, LeavesOn, MovesOn, RemovesOn};
+    ghost use Rattle.tt_log.specs.Calls.{CrashLeavesEmptyOn, CrashLeavesNoEntryOn, KeepsForcedOn, KeepsForcedSinceOn, KeepsLogsOn, HasLogsOn};
+    ghost use Rattle.tt_log.specs.Calls.{ForcesAllOn, SwitchesFileOn, MakesRoomOn, AddsFileOn, ChangesLogsOn, ChangesTwoLogsOn, HasNoLogAboveOn, VisitsLogOn};
+    ghost use Rattle.tt_log.specs.Log.{IsFresh, Appends, Forces, MakesRoom, SwitchesFile, BeginsFrom, HasRoomFor, Puts, IsWhole};
+    ghost use Rattle.tt_log.specs.Log.{current_file_of, file_size_of, first_file_of, force_position_of, forces_earlier, has_unforced, place_for, unforced, unforced_with, write_position_of};
     ghost use Rattle.tt_log.specs.Placement.{all_placed};
-    ghost use Rattle.tt_log.specs.Log.{IsWhole, StandsStill, IsForced, HasSizes, KeepsSizes, place_for, force_position_with, first_file_of, current_file_of, force_position_of, file_size_of};
-    ghost use Rattle.tt_log.specs.Log.{HasRoomFor, Puts, buffer_size_of, forced_of, forces_earlier, unforced, waiting_bytes, write_position_of};
-    ghost use Rattle.tt_log.specs.Scan.{IsScanning, left};
-    ghost use Rattle.tt_log.specs.Log.{entries_in};
-    ghost use Rattle.tt_log.specs.Visitor.{Visits};
-    ghost use Rattle.tt_log.specs.Walk.{Files, is_from, is_switch, is_since, log_of};
+    ghost use Rattle.tt_log.specs.Scan.{Scans, first_position_of};
+    ghost use Rattle.tt_log.specs.Walk.{is_switch};
 
     /// Removes every log file and makes an empty first one.
     pub fn make<V: Volume>(volume: &mut V) -> Result<(), Failed>
         ensures made { OnOk result (IsEmptyOn V.Volume volume.new) }
         ensures settled { OnOk result (CrashLeavesEmptyOn V.Volume volume.new) }
         ensures alone { OnOk result (HasNoLogAboveOn V.Volume 0 volume.new) }
-        ensures others { ChangesLogsOn V.Volume 0 LOG_NAMES_END volume.old volume.new }
+        ensures others { ChangesLogsOn V.Volume 0 log_names_end volume.old volume.new }
         // However it ends, a crash leaves no log but the empty one, provided that before the call it could leave a first file
         // no longer than a new one.
         ensures short { CrashLeavesNoEntryOn V.Volume volume.old volume.new }
@@ -103,19 +101,12 @@ impl Log {
         log_file_size: u32,
         log_buf_size: u32,
     ) -> Result<Log, LogRefusal>
-        requires file_size { (FILE_LEAST ≤ log_file_size) × (log_file_size ≤ FILE_MOST) }
-        requires buffer_size { (BUFFER_LEAST ≤ log_buf_size) × (log_buf_size ≤ BUFFER_MOST) }
-        ensures open { IfOk result (λ log. IsOpenOn V.Volume log volume.new) }
-        ensures found { IfOk result (λ log. OpensOn V.Volume from volume.old log volume.new) }
-        ensures first { IfOk result (λ log. first_file_of log ≡ from.file) }
+        requires file_size { (file_least ≤ log_file_size) × (log_file_size ≤ file_most) }
+        requires buffer_size { (buffer_least ≤ log_buf_size) × (log_buf_size ≤ buffer_most) }
+        ensures opened { IfOk result (λ log. OpensOn V.Volume from volume.old log volume.new) }
+        ensures fresh { IfOk result (λ log. IsFresh from.file log_file_size log_buf_size log) }
         ensures empty { IfOk result (λ log. unforced log ≡ []) }
-        ensures waiting { IfOk result (λ log. waiting_bytes log ≡ 0) }
-        ensures force { IfOk result (λ log. force_position_of log ≡ write_position_of log) }
-        ensures sizes { IfOk result (λ log. HasSizes log_file_size log_buf_size log) }
         ensures refused { IfErr result (λ e. OpeningRefusedOn V.Volume from volume.old e) }
-
-        // Where every crash could leave the log as it reads, it still does.
-        ensures kept { IfOk result (λ log. CrashLeavesOpenedOn V.Volume from.file volume.old log volume.new) }
         ensures keeps { KeepsFiles V.Volume volume.old volume.new }
         ensures cause { RoseWhereOn V.Volume volume.old volume.new (IsErrOf result LogRefusal.Failed) }
     {
@@ -139,21 +130,13 @@ impl Log {
         log_buf_size: u32,
         visitor: &mut T,
     ) -> Result<Log, LogRefusal>
-        requires file_size { (FILE_LEAST ≤ log_file_size) × (log_file_size ≤ FILE_MOST) }
-        requires buffer_size { (BUFFER_LEAST ≤ log_buf_size) × (log_buf_size ≤ BUFFER_MOST) }
-        ensures open { IfOk result (λ log. IsOpenOn V.Volume log volume.new) }
-        ensures found { IfOk result (λ log. OpensOn V.Volume from volume.old log volume.new) }
-        ensures taken { OfFiles V.Volume volume.old (λ files. OnOk result
-            (Visits (T.visited visitor.old) (T.visited visitor.new) (entries_in (log_of from.file files)))) }
-        ensures first { IfOk result (λ log. first_file_of log ≡ from.file) }
+        requires file_size { (file_least ≤ log_file_size) × (log_file_size ≤ file_most) }
+        requires buffer_size { (buffer_least ≤ log_buf_size) × (log_buf_size ≤ buffer_most) }
+        ensures opened { IfOk result (λ log. OpensOn V.Volume from volume.old log volume.new) }
+        ensures taken { VisitsLogOn V.Volume T.EntryVisitor from.file volume.old visitor.old visitor.new result }
+        ensures fresh { IfOk result (λ log. IsFresh from.file log_file_size log_buf_size log) }
         ensures empty { IfOk result (λ log. unforced log ≡ []) }
-        ensures waiting { IfOk result (λ log. waiting_bytes log ≡ 0) }
-        ensures force { IfOk result (λ log. force_position_of log ≡ write_position_of log) }
-        ensures sizes { IfOk result (λ log. HasSizes log_file_size log_buf_size log) }
         ensures refused { IfErr result (λ e. OpeningRefusedOn V.Volume from volume.old e) }
-
-        // Where every crash could leave the log as it reads, it still does.
-        ensures kept { IfOk result (λ log. CrashLeavesOpenedOn V.Volume from.file volume.old log volume.new) }
         ensures keeps { KeepsFiles V.Volume volume.old volume.new }
         ensures cause { RoseWhereOn V.Volume volume.old volume.new (IsErrOf result LogRefusal.Failed) }
     {
@@ -196,14 +179,10 @@ impl Log {
 
     /// A pass over the forced entries at or behind a position. It takes no memory.
     pub fn scan(&self, from: Position) -> Scan
-        ensures from { result.from ≡ from }
-        ensures scanning { (now : Files) → IsWhole self.now now → first_file_of self.now ≤ from.file
-            → IsScanning result self.now now }
+        ensures from { first_position_of result ≡ from }
 
-        // What it gives is what is forced from that position on.
-        ensures left { (now : Files) → IsWhole self.now now → first_file_of self.now ≤ from.file
-            → from.file ≤ current_file_of self.now
-            → left result self.now now ≡ filter (is_from from) (forced_of self.now now) }
+        // What it gives is what is forced from that position on, where the log begins no later than with its file.
+        ensures scans { (now : Files) → IsWhole self.now now → Scans self.now from now result }
     {
         Scan::new(*self.buffer.allocator(), from)
     }
@@ -234,32 +213,11 @@ impl Log {
         requires entry { IsEntry entry.now }
         requires place { IsSome (place_for self.old entry.now) }
         requires open { IsOpenOn V.Volume self.old volume.old }
-        ensures open { OnOk result (IsOpenOn V.Volume self.new volume.new) }
-        ensures position { IfOk result (λ at. place_for self.old entry.now ≡ Some at) }
-        ensures trail { IfOk result (λ at. HasTrailOn V.Volume self.new volume.new
-            (trail_on V.Volume self.old volume.old ++ (at, entry.now) ∷ [])) }
-
-        // An entry that begins a file, or for which the buffer has no room, forces all entries before it.
-        ensures forced { OnOk result (HasForcedOn V.Volume self.new volume.new (if forces_earlier self.old entry.now
-            then trail_on V.Volume self.old volume.old else forced_on V.Volume self.old volume.old)) }
-        ensures write { IfOk result (λ at. write_position_of self.new ≡ end_of at (length_of entry.now)) }
-        ensures force { OnOk result (force_position_of self.new ≡ force_position_with self.old entry.now) }
-        ensures still { KeepsSizes self.old self.new }
-        ensures failed { OnErr result (StandsStill self.old self.new ⊎ IsForced self.old self.new) }
-
-        // Where a crash could leave just the forced entries, one now leaves these, or all that there were before this one.
-        ensures crash { CrashLeavesForcedOrAllOn V.Volume self.old volume.old volume.new }
-        ensures kept { OnOk result (KeepsForcedOn V.Volume self.old volume.old self.new volume.new) }
-
-        // The next file is touched only once all entries before this one are forced, also where the call fails.
-        ensures order { ForcesBeforeNextFileOn V.Volume self.old volume.old volume.new }
+        ensures appended { Appends entry.now self.old self.new result }
+        ensures entries { AppendsOn V.Volume entry.now self.old volume.old self.new volume.new result }
+        ensures leaves { LeavesOn V.Volume self.old volume.old self.new volume.new result }
         ensures others { ChangesTwoLogsOn V.Volume (current_file_of self.old) volume.old volume.new }
-
-        // The log files that are there are those that were, and the one that the entry lies in.
-        ensures files { IfOk result (λ at. AddsFileOn V.Volume at.file volume.old volume.new) }
-        ensures quiet { forces_earlier self.old entry.now ≡ false → volume.new ≡ volume.old }
-        ensures fails { OnErr result (forces_earlier self.old entry.now ≡ true) }
-        ensures cause { HasCauseOn V.Volume volume.old volume.new result }
+        ensures moves { MovesOn V.Volume (forces_earlier self.old entry.now) volume.old volume.new result }
     {
         self.make_room(volume, entry)?;
         let at = self.write_position();
@@ -272,23 +230,11 @@ impl Log {
     /// Where it fails, the value says the same as before: what wasn't forced still isn't.
     pub fn force<V: Volume>(&mut self, volume: &mut V) -> Result<(), Failed>
         requires open { IsOpenOn V.Volume self.old volume.old }
-        ensures open { OnOk result (IsOpenOn V.Volume self.new volume.new) }
-        ensures trail { OnOk result (HasTrailOn V.Volume self.new volume.new (trail_on V.Volume self.old volume.old)) }
-        ensures forced { OnOk result (HasForcedOn V.Volume self.new volume.new (trail_on V.Volume self.old volume.old)) }
-        ensures force { OnOk result (force_position_of self.new ≡ write_position_of self.old) }
-        ensures empty { OnOk result (waiting_bytes self.new ≡ 0) }
-        ensures write { OnOk result (write_position_of self.new ≡ write_position_of self.old) }
-        ensures still { KeepsSizes self.old self.new }
-        ensures unchanged { OnErr result (StandsStill self.old self.new) }
-
-        // Where a crash could leave just the forced entries, one now leaves these, or all entries.
-        ensures crash { CrashLeavesForcedOrAllOn V.Volume self.old volume.old volume.new }
-        ensures kept { OnOk result (KeepsForcedOn V.Volume self.old volume.old self.new volume.new) }
+        ensures forced { Forces self.old self.new result }
+        ensures entries { OnOk result (ForcesOn V.Volume self.old volume.old self.new volume.new) }
+        ensures leaves { LeavesOn V.Volume self.old volume.old self.new volume.new result }
         ensures others { ChangesOnly V.Volume (LogFile (current_file_of self.old)) volume.old volume.new }
-        ensures files { OnOk result (AddsNoFileOn V.Volume volume.old volume.new) }
-        ensures quiet { waiting_bytes self.old ≡ 0 → volume.new ≡ volume.old }
-        ensures fails { OnErr result (0 < waiting_bytes self.old) }
-        ensures cause { HasCauseOn V.Volume volume.old volume.new result }
+        ensures moves { MovesOn V.Volume (has_unforced self.old) volume.old volume.new result }
     {
         self.write_out(volume)?;
         Ok(())
@@ -299,29 +245,18 @@ impl Log {
     pub fn remove_below<V: Volume>(&mut self, volume: &mut V, file: u32) -> Result<(), Failed>
         requires file { file ≤ current_file_of self.old }
         requires open { IsOpenOn V.Volume self.old volume.old }
+        ensures begins { BeginsFrom file self.old self.new }
         ensures open { IsOpenOn V.Volume self.new volume.new }
-        ensures first { first_file_of self.new ≡ max (first_file_of self.old) file }
-        ensures forced { HasForcedOn V.Volume self.new volume.new
-            (filter (is_since (first_file_of self.new)) (forced_on V.Volume self.old volume.old)) }
-        ensures gone { OnOk result (HasNoLogBelowOn V.Volume file volume.new) }
-        ensures above { OnOk result (HasNoLogAboveOn V.Volume (current_file_of self.old) volume.new) }
-        ensures there { HasLogsOn V.Volume (first_file_of self.new) (current_file_of self.new) volume.new }
-        ensures waiting { unforced self.new ≡ unforced self.old }
-        ensures write { write_position_of self.new ≡ write_position_of self.old }
-        ensures force { force_position_of self.new ≡ force_position_of self.old }
-        ensures still { (current_file_of self.new ≡ current_file_of self.old)
-            × (file_size_of self.new ≡ file_size_of self.old) × (buffer_size_of self.new ≡ buffer_size_of self.old) }
+        ensures forced { KeepsForcedSinceOn V.Volume self.old volume.old self.new volume.new }
 
         // Where a crash could leave just the forced entries, one leaves now just those from the new first file on, whether
         // all went well or not.
         ensures kept { KeepsForcedOn V.Volume self.old volume.old self.new volume.new }
-
-        // However it ends, those below went in ascending order.
-        ensures ascending { GoneInOrderOn V.Volume 0 file volume.old volume.new }
+        ensures removes { RemovesOn V.Volume file self.old volume.old volume.new result }
 
         // From this number to the current file each stays as it is, however it ends.
         ensures stay { KeepsLogsOn V.Volume file (current_file_of self.old) volume.old volume.new }
-        ensures others { ChangesLogsOn V.Volume 0 LOG_NAMES_END volume.old volume.new }
+        ensures there { HasLogsOn V.Volume (first_file_of self.new) (current_file_of self.new) volume.new }
         ensures cause { HasCauseOn V.Volume volume.old volume.new result }
     {
         self.first_file = self.first_file.max(file);
@@ -332,41 +267,32 @@ impl Log {
     // The number of the file to which entries are added.
     pub(crate) fn current(&self) -> u32
         ensures number { result ≡ current_file_of self.now }
-        ensures below { result < LOG_FILES_END }
+        ensures below { result < log_files_end }
     {
         self.current_file
     }
 
-    // Makes room for an entry: goes on in the next file where this one is full, or forces where the buffer
-    // is.
+    // Makes room for an entry: goes on in the next file where this one is full, or forces where the buffer is.
     fn make_room<V: Volume>(&mut self, volume: &mut V, entry: &Entry) -> Result<(), Failed>
         requires entry { IsEntry entry.now }
         requires place { IsSome (place_for self.old entry.now) }
         requires open { IsOpenOn V.Volume self.old volume.old }
-        ensures open { OnOk result (IsOpenOn V.Volume self.new volume.new) }
+        ensures made { MakesRoom entry.now self.old self.new result }
+        ensures waiting { OnOk result (unforced self.new ≡ unforced_with self.old entry.now) }
         ensures found { OnOk result (MakesRoomOn V.Volume self.old entry.now volume.old volume.new) }
-        ensures waiting { OnOk result (unforced self.new
-            ≡ (if forces_earlier self.old entry.now then [] else unforced self.old)) }
-        ensures write { OnOk result (place_for self.old entry.now ≡ Some (write_position_of self.new)) }
-        ensures force { OnOk result (force_position_of self.new ≡ force_position_with self.old entry.now) }
-        ensures room { OnOk result (HasRoomFor entry.now self.new) }
-        ensures still { KeepsSizes self.old self.new }
-        ensures failed { OnErr result (StandsStill self.old self.new ⊎ IsForced self.old self.new) }
-        ensures crash { CrashSwitchesOn V.Volume self.old volume.old volume.new }
-        ensures kept { OnOk result (KeepsForcedOn V.Volume self.old volume.old self.old volume.new) }
-        ensures order { ForcesBeforeNextFileOn V.Volume self.old volume.old volume.new }
-        ensures others { ChangesTwoLogsOn V.Volume (current_file_of self.old) volume.old volume.new }
         ensures files { OnOk result (AddsFileOn V.Volume (current_file_of self.new) volume.old volume.new) }
-        ensures quiet { forces_earlier self.old entry.now ≡ false → volume.new ≡ volume.old }
-        ensures fails { OnErr result (forces_earlier self.old entry.now ≡ true) }
-        ensures cause { HasCauseOn V.Volume volume.old volume.new result }
+        ensures leaves { LeavesOn V.Volume self.old volume.old self.new volume.new result }
+        ensures others { ChangesTwoLogsOn V.Volume (current_file_of self.old) volume.old volume.new }
+        ensures moves { MovesOn V.Volume (forces_earlier self.old entry.now) volume.old volume.new result }
     {
         let length = entry_length(entry);
         if self.forced_bytes as u64 + self.buffered as u64 + length > self.file_size as u64 {
-            return self.switch_file(volume);
+            self.switch_file(volume)?;
+            return Ok(());
         }
         if self.buffered as u64 + length > self.buffer.len() as u64 {
-            return self.write_out(volume);
+            self.write_out(volume)?;
+            return Ok(());
         }
         Ok(())
     }
@@ -382,19 +308,11 @@ impl Log {
 
     // Goes on in the next file: what isn't forced is, the next file is made, and the old one gets a Switch to it.
     fn switch_file<V: Volume>(&mut self, volume: &mut V) -> Result<(), Failed>
-        requires next { current_file_of self.old + 1 < LOG_FILES_END }
+        requires next { current_file_of self.old + 1 < log_files_end }
         requires open { IsOpenOn V.Volume self.old volume.old }
-        ensures open { OnOk result (IsOpenOn V.Volume self.new volume.new) }
+        ensures switched { SwitchesFile self.old self.new result }
         ensures done { OnOk result (SwitchesFileOn V.Volume self.old volume.old volume.new) }
-        ensures empty { OnOk result (waiting_bytes self.new ≡ 0) }
-        ensures start { OnOk result (self.new.forced_bytes ≡ 0) }
-        ensures number { OnOk result (current_file_of self.new ≡ current_file_of self.old + 1) }
-        ensures force { OnOk result (force_position_of self.new ≡ write_position_of self.old) }
-        ensures still { KeepsSizes self.old self.new }
-        ensures failed { OnErr result (StandsStill self.old self.new ⊎ IsForced self.old self.new) }
-        ensures crash { CrashSwitchesOn V.Volume self.old volume.old volume.new }
-        ensures kept { OnOk result (KeepsForcedOn V.Volume self.old volume.old self.old volume.new) }
-        ensures order { ForcesBeforeNextFileOn V.Volume self.old volume.old volume.new }
+        ensures leaves { LeavesOn V.Volume self.old volume.old self.new volume.new result }
         ensures others { ChangesTwoLogsOn V.Volume (current_file_of self.old) volume.old volume.new }
         ensures cause { HasCauseOn V.Volume volume.old volume.new result }
     {
@@ -412,23 +330,11 @@ impl Log {
     // Writes what isn't forced yet.
     fn write_out<V: Volume>(&mut self, volume: &mut V) -> Result<(), Failed>
         requires open { IsOpenOn V.Volume self.old volume.old }
-        ensures open { OnOk result (IsOpenOn V.Volume self.new volume.new) }
+        ensures forced { Forces self.old self.new result }
         ensures done { OnOk result (ForcesAllOn V.Volume self.old volume.old volume.new) }
-        ensures empty { OnOk result (waiting_bytes self.new ≡ 0) }
-        ensures force { OnOk result (force_position_of self.new ≡ write_position_of self.old) }
-        ensures write { OnOk result (write_position_of self.new ≡ write_position_of self.old) }
-        ensures still { KeepsSizes self.old self.new }
-        ensures current { current_file_of self.new ≡ current_file_of self.old }
-        ensures unchanged { OnErr result (StandsStill self.old self.new) }
-
-        // Where each map of files that a crash could leave had the entries that a read gave, one now has these, or these
-        // and all that weren't forced.
-        ensures crash { CrashAddsUnforcedOn V.Volume self.old volume.old volume.new }
-        ensures kept { OnOk result (KeepsForcedOn V.Volume self.old volume.old self.old volume.new) }
+        ensures leaves { LeavesOn V.Volume self.old volume.old self.new volume.new result }
         ensures others { ChangesOnly V.Volume (LogFile (current_file_of self.old)) volume.old volume.new }
-        ensures quiet { waiting_bytes self.old ≡ 0 → volume.new ≡ volume.old }
-        ensures fails { OnErr result (0 < waiting_bytes self.old) }
-        ensures cause { HasCauseOn V.Volume volume.old volume.new result }
+        ensures moves { MovesOn V.Volume (has_unforced self.old) volume.old volume.new result }
     {
         let end = self.write_position();
         if self.buffered == 0 {

@@ -1,16 +1,13 @@
 //! The walk from one log file to the next: a Switch at the end of a file leads to the file of the next number, and the log
 //! ends in the first file without one.
-ghost use Rattle.std.specs.Prelude.{◌≡◌, ◌<◌, IfOk, OnOk, IsErrOf};
-ghost use Rattle.tt_gate.specs.Calls.{RoseWhereOn};
+ghost use Rattle.std.specs.Prelude.{◌<◌, IfOk, IsErrOf};
 ghost use Rattle.tt_disk.specs.Calls.{KeepsFiles};
-ghost use Rattle.tt_log.specs.Calls.{OfFile, OfFiles};
+ghost use Rattle.tt_gate.specs.Calls.{RoseWhereOn};
+ghost use Rattle.tt_record.specs.Limits.{log_files_end};
+ghost use Rattle.tt_log.specs.Calls.{OfFile, OfFiles, VisitsBehindOn, VisitsLogOn};
+ghost use Rattle.tt_log.specs.File.{IsEnd, HasEnd, IsInRange, IsFollowed, IsLogEndInRange, IsClosedIn, Finds, Closes};
 ghost use Rattle.tt_log.specs.Walk.{file_read, log_of};
-ghost use Rattle.tt_log.specs.Opening.{started, IsStart};
-ghost use Rattle.tt_log.specs.Visitor.{Visits, VisitsLog};
-ghost use Rattle.tt_log.specs.Log.{entries_in};
-ghost use Rattle.tt_log.specs.File.{IsEnd, HasEnd, IsInRange, IsFollowed, IsLogEndInRange, IsClosedIn, Closes};
 ghost use Rattle.tt_log.specs.declared.refusal.LogRefusal.TheVariants.{Failed};
-ghost use Rattle.tt_log.specs.Limits.{LOG_FILES_END};
 
 use crate::file::{FileEnd, read_file};
 use crate::refusal::LogRefusal;
@@ -38,13 +35,12 @@ fn follow<V: Volume, T: EntryVisitor>(
     end: FileEnd,
     visitor: &mut T,
 ) -> Result<LogEnd, LogRefusal>
-    requires number { number < LOG_FILES_END }
+    requires number { number < log_files_end }
     requires range { IsInRange number end }
     requires end { OfFile V.Volume number volume.old (λ file. IsEnd (file_read number file) end) }
     requires closed { OfFile V.Volume number volume.old (λ file. Closes file end) }
     ensures exact { OfFiles V.Volume volume.old (λ files. IsFollowed (log_of number files) result) }
-    ensures given { OfFiles V.Volume volume.old (λ files. OnOk result
-        (VisitsLog number (T.visited visitor.old) (T.visited visitor.new) files)) }
+    ensures given { VisitsBehindOn V.Volume T.EntryVisitor number volume.old visitor.old visitor.new result }
     ensures closed { OfFiles V.Volume volume.old (λ files. IfOk result (IsClosedIn files)) }
     ensures within { IfOk result (λ end. IsLogEndInRange number end) }
     ensures keeps { KeepsFiles V.Volume volume.old volume.new }
@@ -77,15 +73,12 @@ fn follow_from<V: Volume, T: EntryVisitor>(
     first: FileEnd,
     visitor: &mut T,
 ) -> Result<LogEnd, LogRefusal>
-    requires number { from.file < LOG_FILES_END }
+    requires number { from.file < log_files_end }
     requires range { IsInRange from.file first }
     requires end { OfFile V.Volume from.file volume.old (λ file. HasEnd from.offset (file_read from.file file) first) }
     requires closed { OfFile V.Volume from.file volume.old (λ file. Closes file first) }
-    ensures exact { OfFiles V.Volume volume.old (λ files. IsFollowed (started from files) result) }
-    ensures same { OfFiles V.Volume volume.old (λ files. OnOk result (IsStart from files)) }
-    ensures given { OfFiles V.Volume volume.old (λ files. OnOk result
-        (VisitsLog from.file (T.visited visitor.old) (T.visited visitor.new) files)) }
-    ensures closed { OfFiles V.Volume volume.old (λ files. IfOk result (IsClosedIn files)) }
+    ensures finds { OfFiles V.Volume volume.old (λ files. Finds from files result) }
+    ensures given { VisitsBehindOn V.Volume T.EntryVisitor from.file volume.old visitor.old visitor.new result }
     ensures within { IfOk result (λ end. IsLogEndInRange from.file end) }
     ensures keeps { KeepsFiles V.Volume volume.old volume.new }
     ensures cause { RoseWhereOn V.Volume volume.old volume.new (IsErrOf result Failed) }
@@ -111,11 +104,8 @@ pub(crate) fn find_entries<V: Volume, T: EntryVisitor>(
     from: Position,
     visitor: &mut T,
 ) -> Result<LogEnd, LogRefusal>
-    ensures exact { OfFiles V.Volume volume.old (λ files. IsFollowed (started from files) result) }
-    ensures same { OfFiles V.Volume volume.old (λ files. OnOk result (IsStart from files)) }
-    ensures given { OfFiles V.Volume volume.old (λ files. OnOk result
-        (Visits (T.visited visitor.old) (T.visited visitor.new) (entries_in (log_of from.file files)))) }
-    ensures closed { OfFiles V.Volume volume.old (λ files. IfOk result (IsClosedIn files)) }
+    ensures finds { OfFiles V.Volume volume.old (λ files. Finds from files result) }
+    ensures given { VisitsLogOn V.Volume T.EntryVisitor from.file volume.old visitor.old visitor.new result }
     ensures within { IfOk result (λ end. IsLogEndInRange from.file end) }
     ensures keeps { KeepsFiles V.Volume volume.old volume.new }
     ensures cause { RoseWhereOn V.Volume volume.old volume.new (IsErrOf result Failed) }

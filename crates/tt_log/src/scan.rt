@@ -1,13 +1,14 @@
 //! A pass over the forced entries of a log in their order. It reads each file once, batch by batch, and holds one body.
-ghost use Rattle.std.specs.Prelude.{◌≡◌, ◌⊎◌, ◌<◌, ◌≤◌, ◌+◌, ◌-◌, ◌^◌, [], ◌∷◌, length, not, true, false};
-ghost use Rattle.std.specs.Prelude.{IfOk, IfErr, IfSome, OnOk, IsErrOf};
+ghost use Rattle.std.specs.Prelude.{◌≡◌, ◌<◌, ◌≤◌, ◌+◌, ◌-◌, [], length, not, true, false, IfOk, IfErr, IfSome, OnOk, IsErrOf};
 ghost use Rattle.tt_disk.specs.Calls.{KeepsFiles};
+ghost use Rattle.tt_disk.specs.Volume.{Files};
+ghost use Rattle.tt_gate.specs.Limits.{first_gate_at, longest_file};
 ghost use Rattle.tt_record.specs.declared.entry.Entry.{Entry};
 ghost use Rattle.tt_record.specs.Entry.{IsEntry};
-ghost use Rattle.tt_log.specs.Walk.{Files, is_from, in_front};
-ghost use Rattle.tt_log.specs.Limits.{FILE_MOST, LAST_LOG_FILE, LOG_FILES_END};
-ghost use Rattle.tt_log.specs.declared.refusal.LogRefusal.TheVariants.{Failed, NoMemory};
-ghost use Rattle.tt_gate.specs.Limits.{first_gate_at, longest_file};
+ghost use Rattle.tt_record.specs.Limits.{log_files_end};
+ghost use Rattle.tt_log.specs.Limits.{file_most, last_log_file};
+ghost use Rattle.tt_log.specs.Walk.{is_from};
+ghost use Rattle.tt_log.specs.declared.refusal.LogRefusal.TheVariants.{Failed};
 
 use crate::batch::{Batch, check_header, read_batch};
 use crate::body::read_entry_at;
@@ -34,7 +35,7 @@ pub struct Scan {
     at: usize,
     ghost inside: { at ≤ length body.items },
     ghost gates: { (first_gate_at ≤ gate) × (gate < longest_file) },
-    ghost offsets: { offset + (length body.items - at) ≤ FILE_MOST },
+    ghost offsets: { offset + (length body.items - at) ≤ file_most },
 }
 
 // What was read next.
@@ -56,10 +57,9 @@ fn is_before(at: Position, from: Position) -> bool
 
 impl Scan {
     ghost use Rattle.tt_gate.specs.Calls.{RoseWhereOn};
-    ghost use Rattle.tt_log.specs.Calls.{OfFiles, OfBoth, FailsOn, FailsOrWantsMemoryOn};
-    ghost use Rattle.tt_log.specs.Scan.{IsGoing, IsScanning, StepsOn, EndsOn, HasMore, IsUsedUp, HasLess, Switches};
-    ghost use Rattle.tt_log.specs.Scan.{ahead, left, from_here, given, with_given, most_left};
-    ghost use Rattle.tt_log.specs.Log.{walk_end};
+    ghost use Rattle.tt_log.specs.Calls.{OfFiles, FailsOn, FailsOrWantsMemoryOn};
+    ghost use Rattle.tt_log.specs.Scan.{IsGoing, IsScanning, IsUsedUp, HasMore, StaysInBatch, StepsOn, LoadsOn, EndsOn, GoesOnOn, GivesOn, GivesHereOn};
+    ghost use Rattle.tt_log.specs.Scan.{TakesAhead, TakesHere, first_position_of, most_left};
 
     // A scan that hasn't read anything.
     pub(crate) fn new(alloc: Global, from: Position) -> Scan
@@ -84,12 +84,13 @@ impl Scan {
 
     // Reads the header of the file, if it wasn't read.
     fn enter<V: Volume>(&mut self, volume: &mut V) -> Result<(), LogRefusal>
-        requires file { self.old.file < LOG_FILES_END }
+        requires file { self.old.file < log_files_end }
         requires going { OfFiles V.Volume volume.old (λ files. IsGoing self.old files) }
         ensures steps { StepsOn V.Volume self.old self.new volume.old volume.new }
         ensures begun { OnOk result (self.new.begun ≡ true) }
-        ensures still { (self.new.file ≡ self.old.file) × (self.new.gate ≡ self.old.gate)
-            × (self.new.offset ≡ self.old.offset) × (self.new.body ≡ self.old.body) × (self.new.at ≡ self.old.at) }
+        ensures still { StaysInBatch self.old self.new }
+        ensures at { self.new.at ≡ self.old.at }
+        ensures offset { self.new.offset ≡ self.old.offset }
         ensures refused { FailsOn V.Volume result }
         ensures cause { RoseWhereOn V.Volume volume.old volume.new (IsErrOf result Failed) }
     {
@@ -107,7 +108,7 @@ impl Scan {
 
     // Goes on in the next file.
     fn switch_file(&mut self)
-        requires file { self.old.file < LAST_LOG_FILE }
+        requires file { self.old.file < last_log_file }
         ensures file { self.new.file ≡ self.old.file + 1 }
         ensures begun { self.new.begun ≡ false }
         ensures gate { self.new.gate ≡ first_gate_at }
@@ -127,7 +128,7 @@ impl Scan {
     fn fill(&mut self, body: Vec<u8>)
         requires none { IsUsedUp self.old }
         requires inside { self.old.gate + 9 + length body.items < longest_file }
-        requires room { self.old.offset + length body.items ≤ FILE_MOST }
+        requires room { self.old.offset + length body.items ≤ file_most }
         ensures file { self.new.file ≡ self.old.file }
         ensures begun { self.new.begun ≡ self.old.begun }
         ensures gate { self.new.gate ≡ self.old.gate + 9 + length body.items }
@@ -143,15 +144,12 @@ impl Scan {
 
     // Reads what stands behind the gate, where all entries before it were given.
     fn load<V: Volume>(&mut self, volume: &mut V) -> Result<Loaded, LogRefusal>
-        requires file { self.old.file < LOG_FILES_END }
+        requires file { self.old.file < log_files_end }
         requires begun { self.old.begun ≡ true }
         requires none { IsUsedUp self.old }
         requires going { OfFiles V.Volume volume.old (λ files. IsGoing self.old files) }
         ensures steps { StepsOn V.Volume self.old self.new volume.old volume.new }
-        ensures body { IfOk result (λ loaded. loaded ≡ Loaded.Body → HasMore self.new) }
-        ensures switched { IfOk result (λ loaded. loaded ≡ Loaded.Switched → Switches self.old self.new) }
-        ensures nothing { IfOk result (λ got. got ≡ Loaded.Nothing → EndsOn V.Volume self.old volume.old) }
-        ensures fewer { IfOk result (λ loaded. (loaded ≡ Loaded.Nothing → ⊥) → HasLess self.old self.new) }
+        ensures loads { IfOk result (LoadsOn V.Volume self.old self.new volume.old) }
         ensures still { IfErr result (λ e. self.new ≡ self.old) }
         ensures refused { FailsOrWantsMemoryOn V.Volume result }
         ensures cause { RoseWhereOn V.Volume volume.old volume.new (IsErrOf result Failed) }
@@ -173,14 +171,11 @@ impl Scan {
 
     // Reads the header where it wasn't read, and then what stands behind the gate.
     fn enter_and_load<V: Volume>(&mut self, volume: &mut V) -> Result<Loaded, LogRefusal>
-        requires file { self.old.file < LOG_FILES_END }
+        requires file { self.old.file < log_files_end }
         requires none { IsUsedUp self.old }
         requires going { OfFiles V.Volume volume.old (λ files. IsGoing self.old files) }
         ensures steps { StepsOn V.Volume self.old self.new volume.old volume.new }
-        ensures body { IfOk result (λ loaded. loaded ≡ Loaded.Body → HasMore self.new) }
-        ensures switched { IfOk result (λ loaded. loaded ≡ Loaded.Switched → Switches self.old self.new) }
-        ensures nothing { IfOk result (λ got. got ≡ Loaded.Nothing → EndsOn V.Volume self.old volume.old) }
-        ensures fewer { IfOk result (λ loaded. (loaded ≡ Loaded.Nothing → ⊥) → HasLess self.old self.new) }
+        ensures loads { IfOk result (LoadsOn V.Volume self.old self.new volume.old) }
         ensures refused { FailsOrWantsMemoryOn V.Volume result }
         ensures cause { RoseWhereOn V.Volume volume.old volume.new (IsErrOf result Failed) }
     {
@@ -192,7 +187,7 @@ impl Scan {
 
     // Reads on until there are entries, or until the log ends.
     fn refill<V: Volume>(&mut self, volume: &mut V) -> Result<bool, LogRefusal>
-        requires file { self.old.file < LOG_FILES_END }
+        requires file { self.old.file < log_files_end }
         requires none { IsUsedUp self.old }
         requires going { OfFiles V.Volume volume.old (λ files. IsGoing self.old files) }
         ensures steps { StepsOn V.Volume self.old self.new volume.old volume.new }
@@ -214,7 +209,7 @@ impl Scan {
 
     // Sees to it that an entry is at hand; `false` where the log ends.
     fn more<V: Volume>(&mut self, volume: &mut V) -> Result<bool, LogRefusal>
-        requires file { self.old.file < LOG_FILES_END }
+        requires file { self.old.file < log_files_end }
         requires going { OfFiles V.Volume volume.old (λ files. IsGoing self.old files) }
         ensures steps { StepsOn V.Volume self.old self.new volume.old volume.new }
         ensures some { IfOk result (λ more. more ≡ true → HasMore self.new) }
@@ -234,8 +229,9 @@ impl Scan {
         requires { self.old.at + n ≤ length self.old.body.items }
         ensures at { self.new.at ≡ self.old.at + n }
         ensures offset { self.new.offset ≡ self.old.offset + n }
-        ensures still { (self.new.from ≡ self.old.from) × (self.new.file ≡ self.old.file)
-            × (self.new.begun ≡ self.old.begun) × (self.new.gate ≡ self.old.gate) × (self.new.body ≡ self.old.body) }
+        ensures still { StaysInBatch self.old self.new }
+        ensures begun { self.new.begun ≡ self.old.begun }
+        ensures from { self.new.from ≡ self.old.from }
     {
         self.at += n;
         self.offset += n as u32;
@@ -244,11 +240,8 @@ impl Scan {
     // Visits the entry that is at hand.
     fn take(&mut self) -> Result<(Position, Entry), LogRefusal>
         requires some { HasMore self.old }
-        ensures going { (files : Files) → IsGoing self.old files → IsGoing self.new files }
-        ensures given { (files : Files) → IsGoing self.old files
-            → IfOk result (λ p. ahead self.old files ≡ in_front (p ∷ []) (ahead self.new files)) }
+        ensures takes { (files : Files) → IsGoing self.old files → TakesAhead self.old self.new files result }
         ensures still { IfErr result (λ e. self.new ≡ self.old) }
-        ensures refused { (files : Files) → IsGoing self.old files → IfErr result (λ e. e ≡ NoMemory) }
         ensures unfailed { IsErrOf result Failed → ⊥ }
         ensures entry { IfOk result (λ p. IsEntry p.1) }
         ensures fewer { OnOk result (most_left self.new < most_left self.old) }
@@ -276,13 +269,8 @@ impl Scan {
     // Visits the entry that is at hand; `None` where it stands before the scan's first position.
     fn take_from(&mut self) -> Result<Option<(Position, Entry)>, LogRefusal>
         requires some { HasMore self.old }
-        ensures going { (files : Files) → IsGoing self.old files → IsGoing self.new files }
-        ensures end { (files : Files) → IsGoing self.old files
-            → (walk_end (ahead self.new files)).file ≡ (walk_end (ahead self.old files)).file }
-        ensures given { (files : Files) → IsGoing self.old files
-            → IfOk result (λ o. from_here self.old files ≡ with_given o (from_here self.new files)) }
+        ensures takes { (files : Files) → IsGoing self.old files → TakesHere self.old self.new files result }
         ensures still { IfErr result (λ e. self.new ≡ self.old) }
-        ensures refused { (files : Files) → IsGoing self.old files → IfErr result (λ e. e ≡ NoMemory) }
         ensures unfailed { IsErrOf result Failed → ⊥ }
         ensures entry { IfOk result (λ o. IfSome o (λ p. IsEntry p.1)) }
         ensures fewer { OnOk result (most_left self.new < most_left self.old) }
@@ -313,14 +301,11 @@ impl Scan {
     ) -> Result<Option<(Position, Entry)>, LogRefusal>
         requires scanning { OfFiles V.Volume volume.old (λ files. IsScanning self.old log.now files) }
         ensures scanning { OfFiles V.Volume volume.new (λ files. IsScanning self.new log.now files) }
-        ensures next { OfBoth V.Volume volume.old volume.new (λ before after.
-            IfOk result (λ o. left self.old log.now before ≡ given o (left self.new log.now after))) }
-        ensures still { OfBoth V.Volume volume.old volume.new (λ before after.
-            IfErr result (λ e. left self.new log.now after ≡ left self.old log.now before)) }
+        ensures gives { GivesOn V.Volume log.now self.old volume.old self.new volume.new result }
         ensures entry { IfOk result (λ o. IfSome o (λ p. IsEntry p.1)) }
         ensures fewer { IfOk result (λ o. IfSome o (λ p. most_left self.new < most_left self.old)) }
         ensures refused { FailsOrWantsMemoryOn V.Volume result }
-        ensures from { self.new.from ≡ self.old.from }
+        ensures from { first_position_of self.new ≡ first_position_of self.old }
         ensures keeps { KeepsFiles V.Volume volume.old volume.new }
         ensures cause { RoseWhereOn V.Volume volume.old volume.new (IsErrOf result Failed) }
     {
@@ -332,15 +317,10 @@ impl Scan {
 
     // The next entry at or behind the first position, where the scan isn't past the log's current file.
     fn find<V: Volume>(&mut self, volume: &mut V) -> Result<Option<(Position, Entry)>, LogRefusal>
-        requires file { self.old.file < LOG_FILES_END }
+        requires file { self.old.file < log_files_end }
         requires going { OfFiles V.Volume volume.old (λ files. IsGoing self.old files) }
-        ensures going { OfFiles V.Volume volume.new (λ files. IsGoing self.new files) }
-        ensures end { OfBoth V.Volume volume.old volume.new (λ before after.
-            (walk_end (ahead self.new after)).file ≡ (walk_end (ahead self.old before)).file) }
-        ensures next { OfBoth V.Volume volume.old volume.new (λ before after.
-            IfOk result (λ o. from_here self.old before ≡ given o (from_here self.new after))) }
-        ensures still { OfBoth V.Volume volume.old volume.new (λ before after.
-            IfErr result (λ e. from_here self.new after ≡ from_here self.old before)) }
+        ensures goes_on { GoesOnOn V.Volume self.old volume.old self.new volume.new }
+        ensures gives { GivesHereOn V.Volume self.old volume.old self.new volume.new result }
         ensures entry { IfOk result (λ o. IfSome o (λ p. IsEntry p.1)) }
         ensures fewer { IfOk result (λ o. IfSome o (λ p. most_left self.new < most_left self.old)) }
         ensures refused { FailsOrWantsMemoryOn V.Volume result }

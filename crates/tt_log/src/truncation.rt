@@ -2,13 +2,13 @@
 ghost use Rattle.std.specs.Prelude.{◌≤◌, OnOk};
 ghost use Rattle.tt_gate.specs.Calls.{HasCauseOn};
 ghost use Rattle.tt_log.specs.Calls.{HasNoLogOn, ChangesLogsOn, GoneInOrderOn, CrashRemovesLogsOn};
-ghost use Rattle.tt_log.specs.Limits.{LOG_NAMES_END};
+ghost use Rattle.tt_log.specs.Limits.{log_names_end};
 
 use tt_disk::{Failed, Name, Volume};
 
 // Removes the log files of these numbers, the least first.
 pub(crate) fn remove_logs<V: Volume>(volume: &mut V, from: u32, end: u64) -> Result<(), Failed>
-    requires { end ≤ LOG_NAMES_END }
+    requires { end ≤ log_names_end }
     ensures gone { OnOk result (HasNoLogOn V.Volume from end volume.new) }
     ensures others { ChangesLogsOn V.Volume from end volume.old volume.new }
 

@@ -1,12 +1,10 @@
 //! What is handed the entries of a log while the log is opened, so that each file is read once.
-ghost use Rattle.std.specs.Prelude.{◌≡◌, ◌+◌, ◌<◌, ◌≤◌, [], ◌∷◌, ◌++◌, List, length, drop, IfOk, IfSome, OnOk, Some, None};
+ghost use Rattle.std.specs.Prelude.{◌+◌, ◌≤◌, [], ◌∷◌, List, length, IfOk, OnOk};
 ghost use Rattle.tt_value.specs.declared.position.Position.{Position};
 ghost use Rattle.tt_record.specs.declared.entry.Entry.{Entry};
 ghost use Rattle.tt_record.specs.Entry.{IsEntry};
-ghost use Rattle.tt_record.specs.Read.{entry_at, entries_of};
-ghost use Rattle.tt_log.specs.Walk.{placed};
-ghost use Rattle.tt_log.specs.Limits.{FILE_MOST};
-ghost use Rattle.tt_log.specs.Visitor.{Visits, VisitsOne};
+ghost use Rattle.tt_log.specs.Limits.{file_most};
+ghost use Rattle.tt_log.specs.Visitor.{Visits, VisitsBody, VisitsNext};
 
 use crate::body::read_entry_at;
 use std::alloc::{AllocError, Global};
@@ -21,8 +19,7 @@ pub trait EntryVisitor {
     /// Visits one more entry. Where memory is wanting, what it stands for isn't known any more.
     fn visit(&mut self, at: Position, entry: Entry) -> Result<(), AllocError>
         requires entry { IsEntry entry }
-        ensures visited { (ps : List (Position × Entry)) → visited self.old ps
-            → OnOk result (visited self.new (ps ++ (at, entry) ∷ [])) };
+        ensures visited { OnOk result (Visits (visited self.old) (visited self.new) ((at, entry) ∷ [])) };
 }
 
 // Keeps nothing.
@@ -46,9 +43,7 @@ fn visit_entry<T: EntryVisitor>(
     visitor: &mut T,
 ) -> Result<Option<usize>, AllocError>
     requires { at ≤ length bytes.now }
-    ensures some { IfOk result (λ o. IfSome o
-        (λ n. VisitsOne (T.visited visitor.old) (T.visited visitor.new) bytes.now at n place)) }
-    ensures none { IfOk result (λ o. o ≡ None → entry_at (drop at bytes.now) ≡ None) }
+    ensures visits { IfOk result (VisitsNext T.visited visitor.old visitor.new bytes.now at place) }
 {
     match read_entry_at(alloc, bytes, at)? {
         Some((entry, n)) => {
@@ -67,9 +62,8 @@ pub(crate) fn visit_body<T: EntryVisitor>(
     offset: u32,
     visitor: &mut T,
 ) -> Result<(), AllocError>
-    requires room { offset + length bytes.now ≤ FILE_MOST }
-    ensures given { (es : List Entry) → entries_of bytes.now ≡ Some es
-        → OnOk result (Visits (T.visited visitor.old) (T.visited visitor.new) (placed file offset es)) }
+    requires room { offset + length bytes.now ≤ file_most }
+    ensures given { OnOk result (VisitsBody T.visited visitor.old visitor.new file offset bytes.now) }
 {
     let mut at = 0;
     'entries: while at < bytes.len() {

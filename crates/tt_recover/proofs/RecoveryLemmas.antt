@@ -2,11 +2,12 @@
 use Rattle.std.proofs.Common.{◌≡◌, ◌+◌, ℕ, zero, suc, Bool, true, List, [], ◌∷◌, ◌++◌, Result, Ok, Err, refl, sym, ap, ◌∙◌, subst}
 use Rattle.std.specs.Prelude.{IsOk}
 use Rattle.tt_disk.specs.declared.volume.Name.TheVariants.{Log as LogFile}
+use Rattle.tt_disk.specs.Volume.{Files}
 use Rattle.tt_value.specs.declared.position.Position.{Position}
 use Rattle.tt_record.specs.declared.entry.Entry.{Entry}
 use Rattle.tt_record.specs.Place.{position}
 use Rattle.tt_log.specs.declared.refusal.LogRefusal.{LogRefusal}
-use Rattle.tt_log.specs.Walk.{Files, LogContents as Read, Part, file_read, on_part, walk, log_of}
+use Rattle.tt_log.specs.Walk.{LogContents as Read, Part, file_read, on_part, walk, log_of}
 use Rattle.tt_log.specs.Opening.{is_place, has_place, where_place, started}
 use Rattle.tt_log.specs.Log.{entries_in, forced_of, walk_end, unforced, write_position_of, first_file_of}
 use Rattle.tt_model.specs.Trail.{Trail}

@@ -5,7 +5,7 @@ use Rattle.std.proofs.lemmas.Bool.Decides.{nat_tests, leb_tells}
 use Rattle.std.specs.Cmp.{nat_cmp_is}
 use Rattle.std.specs.List.{list_any}
 use Rattle.std.specs.Ordering.{is_eq, is_lt, ordering_then}
-use Rattle.tt_disk.specs.Volume.{bytes_of}
+use Rattle.tt_disk.specs.Volume.{bytes_of, Files}
 use Rattle.tt_disk.specs.declared.volume.Name.TheVariants.{Ds, Log}
 use Rattle.tt_gate.specs.declared.gate.GateRefusal.{GateRefusal}
 use Rattle.tt_gate.specs.declared.gate.GateRefusal.TheVariants.{Absent as GateAbsent, BadHeader as GateHeader, BadBatch as GateBad, Failed as GateFailed}
@@ -20,8 +20,8 @@ use Rattle.tt_record.specs.Read.{entries_of}
 use Rattle.tt_log.specs.Lengths.{total}
 use Rattle.tt_log.specs.declared.refusal.LogRefusal.{LogRefusal}
 use Rattle.tt_log.specs.declared.refusal.LogRefusal.TheVariants.{Gap, BadBatch as BatchRefused, Failed, NoMemory as NoRoom}
-use Rattle.tt_log.specs.Walk.{Files, Part, LogContents as Read, after_switch, batch_read, before as put_before, bodies_read, chosen, file_read, in_front as found_in_front, is_last, log_header, log_of, no_switch, offset_behind, on_part, part_of, placed, same_bytes, switches, walk}
-use Rattle.tt_log.specs.Limits.{FILE_MOST}
+use Rattle.tt_log.specs.Walk.{Part, LogContents as Read, after_switch, batch_read, before as put_before, bodies_read, chosen, file_read, in_front as found_in_front, is_last, log_header, log_of, no_switch, offset_behind, on_part, part_of, placed, same_bytes, switches, walk}
+use Rattle.tt_log.specs.Limits.{file_most}
 use Rattle.tt_log.specs.Opening.{has_place, is_place, started, starts_at, where_place}
 use Rattle.tt_model.specs.Trail.{Trail, Placed as PlacedEntry, position_eq, position_lt}
 use Rattle.tt_model.specs.Live.{pages_named}
@@ -304,14 +304,14 @@ last_by false last test n at next offset more all turned is = cc
 
 chosen_by : (plain turn last : Bool) (test : ℕ → Entry → Bool) (es : List Entry) (n at next offset : ℕ) (more : Part) (rest : Option ℕ) (all : List Entry) (turned : Bool)
     → ((ms : List Entry) (t : Bool) → more ≡ Ok (ms, t) → rest ≡ None → any_passes test (offset + total es) ms ≡ false)
-    → chosen plain turn last es n at next offset more ≡ Ok (all, turned) → gate_step test at offset (plain && nat_le (offset + total es) FILE_MOST) es rest ≡ None → any_passes test offset all ≡ false
-chosen_by true turn last test es n at next offset more rest all turned ih is gate = fits_by (nat_le (offset + total es) FILE_MOST) test es n at offset more rest all turned ih is gate
+    → chosen plain turn last es n at next offset more ≡ Ok (all, turned) → gate_step test at offset (plain && nat_le (offset + total es) file_most) es rest ≡ None → any_passes test offset all ≡ false
+chosen_by true turn last test es n at next offset more rest all turned ih is gate = fits_by (nat_le (offset + total es) file_most) test es n at offset more rest all turned ih is gate
 chosen_by false turn last test es n at next offset more rest all turned ih is gate = last_by turn last test n at next offset more all turned is
 
 gates_by : (o : Option (List Entry)) (test : ℕ → Entry → Bool) (n at next offset : ℕ) (rest_of : ℕ → Part) (gates_of : ℕ → Option ℕ) (last : Bool) (all : List Entry) (turned : Bool)
     → ((k : ℕ) (ms : List Entry) (t : Bool) → rest_of k ≡ Ok (ms, t) → gates_of k ≡ None → any_passes test k ms ≡ false)
     → batch_read n at next offset o last (rest_of (offset_behind offset o)) ≡ Ok (all, turned)
-    → ◌≡◌ {A = Option ℕ} (elim o [ None ↦ None | Some es ↦ if no_switch es && nat_le (offset + total es) FILE_MOST then (if any_passes test offset es then Some at else gates_of (offset + total es)) else None ]) None
+    → ◌≡◌ {A = Option ℕ} (elim o [ None ↦ None | Some es ↦ if no_switch es && nat_le (offset + total es) file_most then (if any_passes test offset es then Some at else gates_of (offset + total es)) else None ]) None
     → any_passes test offset all ≡ false
 gates_by None test n at next offset rest_of gates_of last all turned ih is gate = cc
 gates_by (Some es) test n at next offset rest_of gates_of last all turned ih is gate =

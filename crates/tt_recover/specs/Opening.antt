@@ -3,12 +3,13 @@ use Rattle.std.specs.Prelude.{List, [], ◌∷◌, Result, Ok, Err}
 use Rattle.tt_value.specs.declared.position.Position.{Position}
 use Rattle.tt_record.specs.declared.entry.Entry.{Entry}
 use Rattle.tt_log.specs.declared.refusal.LogRefusal.{LogRefusal}
-use Rattle.tt_log.specs.Walk.{Files, LogContents as Read, log_of}
+use Rattle.tt_log.specs.Walk.{LogContents as Read, log_of}
 use Rattle.tt_model.specs.Trail.{Trail}
 use Rattle.tt_model.specs.Committed.{no_cells}
 use Rattle.tt_model.specs.Live.{next_number}
 use Rattle.tt_model.specs.Standing.{standing}
 use Rattle.tt_model.specs.Opened.{Opened, only_first, first_head}
+use Rattle.tt_disk.specs.Volume.{Files}
 
 -- entries behind a trail, one after another
 abbrev pub laid_on : Trail → List (Position × Entry) → Trail

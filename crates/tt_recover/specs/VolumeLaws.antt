@@ -1,10 +1,11 @@
 -- The log is read in two parts, each file once.
 use Rattle.std.proofs.Common.{◌≡◌, ◌<◌, ◌+◌, ◌-◌, ℕ, zero, suc, Bool, true, false, List, [], ◌++◌, Option, Some, None, Result, Ok, Err, refl, sym, ◌∙◌, ap, arith, append_assoc}
 use Rattle.tt_disk.specs.declared.volume.Name.TheVariants.{Log}
+use Rattle.tt_disk.specs.Volume.{Files}
 use Rattle.tt_record.specs.declared.entry.Entry.{Entry}
 use Rattle.tt_log.specs.declared.refusal.LogRefusal.{LogRefusal}
 use Rattle.tt_log.specs.declared.refusal.LogRefusal.TheVariants.{Gap, BadBatch as BatchRefused, Failed, NoMemory as NoRoom}
-use Rattle.tt_log.specs.Walk.{Files, Part, LogContents as Read, file_read, in_front as found_in_front, log_of, on_part, placed, walk}
+use Rattle.tt_log.specs.Walk.{Part, LogContents as Read, file_read, in_front as found_in_front, log_of, on_part, placed, walk}
 use Rattle.tt_recover.specs.Volumes.{Placed, older, older_read, on_older, unless_gate}
 
 pub unless_same : (n : ℕ) (gate : Option ℕ) (part : Part) (p : List Entry × Bool) → unless_gate n gate part ≡ Ok p → part ≡ Ok p

@@ -3,6 +3,7 @@
 use Rattle.std.specs.Prelude.{◌+◌, ◌-◌, ◌*◌, ◌/◌, ◌%◌, ◌==◌, ◌&&◌, ◌||◌, ℕ, zero, suc, Bool, false, nat_eq, nat_le, nat_lt, is_none, List, [], ◌∷◌, ◌++◌, length, take, drop, Option, Some, None, Result, Ok, Err, if◌then◌else◌}
 use Rattle.std.specs.Option.{option_or}
 use Rattle.tt_disk.specs.declared.volume.Name.TheVariants.{Ds, Log}
+use Rattle.tt_disk.specs.Volume.{Files}
 use Rattle.tt_gate.specs.Gate.{whole_bodies}
 use Rattle.tt_value.specs.declared.position.Position.{Position}
 use Rattle.tt_value.specs.declared.value.Cell.{Cell}
@@ -15,8 +16,8 @@ use Rattle.tt_log.specs.Lengths.{total}
 use Rattle.tt_log.specs.declared.refusal.LogRefusal.{LogRefusal}
 use Rattle.tt_log.specs.declared.refusal.LogRefusal.TheVariants.{Gap, BadBatch as BatchRefused, Failed, NoMemory as NoRoom}
 use Rattle.tt_log.specs.Opening.{started}
-use Rattle.tt_log.specs.Walk.{Files, Part, LogContents as Read, file_read, no_switch, placed}
-use Rattle.tt_log.specs.Limits.{FILE_MOST}
+use Rattle.tt_log.specs.Walk.{Part, LogContents as Read, file_read, no_switch, placed}
+use Rattle.tt_log.specs.Limits.{file_most}
 use Rattle.tt_cells.specs.Limits.{cell_size}
 use Rattle.tt_cells.specs.ReadingCells.{cell_in, or_empty}
 use Rattle.tt_image.specs.declared.head.ImageHead.{ImageHead}
@@ -124,7 +125,7 @@ gate_where test at offset [] = None
 gate_where test at offset (body ∷ bodies) =
     elim (entries_of body) [
       | None ↦ None
-      | Some es ↦ if no_switch es && nat_le (offset + total es) FILE_MOST
+      | Some es ↦ if no_switch es && nat_le (offset + total es) file_most
           then (if any_passes test offset es then Some at else gate_where test (at + 9 + length body) (offset + total es) bodies) else None
     ]
 

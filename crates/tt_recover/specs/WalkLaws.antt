@@ -1,6 +1,6 @@
 -- The walk over the bytes of log files is the model's walk over their entries.
 use Rattle.std.proofs.Common.{◌≡◌, ◌≤◌, ◌+◌, ◌-◌, ℕ, zero, suc, Bool, true, false, nat_le, List, [], ◌∷◌, ◌++◌, length, take, Option, Some, None, Result, Ok, Err, if◌then◌else◌, refl, sym, ◌∙◌, ap, ap₂, arith}
-use Rattle.tt_disk.specs.Volume.{bytes_of}
+use Rattle.tt_disk.specs.Volume.{bytes_of, Files}
 use Rattle.tt_disk.specs.declared.volume.Name.TheVariants.{Log}
 use Rattle.tt_gate.specs.declared.gate.GateRefusal.{GateRefusal}
 use Rattle.tt_gate.specs.declared.gate.GateRefusal.TheVariants.{Absent, BadHeader, BadBatch as GateBad, Failed as GateFailed}
@@ -14,7 +14,7 @@ use Rattle.tt_record.specs.Read.{entries_of}
 use Rattle.tt_log.specs.Lengths.{total}
 use Rattle.tt_log.specs.declared.refusal.LogRefusal.{LogRefusal}
 use Rattle.tt_log.specs.declared.refusal.LogRefusal.TheVariants.{BadBatch, Gap}
-use Rattle.tt_log.specs.Walk.{Files, Part, LogContents as Read, after_switch, batch_read, before as put_before, bodies_read, chosen, file_read, in_front, is_last, is_switch, log_header, log_of, no_switch, offset_behind, on_part, part_of, placed, same_bytes, switches, walk}
+use Rattle.tt_log.specs.Walk.{Part, LogContents as Read, after_switch, batch_read, before as put_before, bodies_read, chosen, file_read, in_front, is_last, is_switch, log_header, log_of, no_switch, offset_behind, on_part, part_of, placed, same_bytes, switches, walk}
 use Rattle.tt_model.specs.Trail.{Trail}
 use Rattle.tt_model.specs.Standing.{laid, named_next, walked, log_of as trail_of}
 use Rattle.tt_recover.specs.Opening.{opened_from, opened_of, laid_on, newest_first, opening}

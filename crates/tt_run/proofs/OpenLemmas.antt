@@ -2,7 +2,7 @@
 use Rattle.std.proofs.Common.{◌≡◌, ◌⊎◌, inl, inr, ◌^◌, ◌<◌, ◌≤◌, ◌∙◌, ℕ, [], List, length, Option, Some, None, Result, Ok, Err, refl, sym, ap, ap₂, subst, arith}
 use Rattle.std.specs.Prelude.{IfSome, IsSome, option_map, take}
 use Rattle.tt_flow.specs.Script.{ended_lines, script_most}
-use Rattle.tt_disk.specs.Volume.{Keeps, size_of}
+use Rattle.tt_disk.specs.Volume.{Keeps, size_of, Files}
 use Rattle.tt_disk.specs.declared.volume.Name.TheVariants.{Log as LogFile}
 use Rattle.tt_gate.specs.GateFile.{CrashLeavesAtMost}
 use Rattle.tt_value.specs.declared.reply.Stop.TheVariants.{Logs}
@@ -10,7 +10,7 @@ use Rattle.tt_value.specs.declared.position.Position.{Position}
 use Rattle.tt_set.specs.declared.settings.Settings.{Settings}
 use Rattle.tt_log.specs.declared.refusal.LogRefusal.{LogRefusal}
 use Rattle.tt_log.specs.declared.refusal.LogRefusal.TheVariants.{Gap}
-use Rattle.tt_log.specs.Walk.{Files, LogContents as Read, log_of, nothing}
+use Rattle.tt_log.specs.Walk.{LogContents as Read, log_of, nothing}
 use Rattle.tt_log.specs.Log.{CrashLeavesLog, MayLeave}
 use Rattle.tt_model.specs.Opened.{Opened}
 use Rattle.tt_model.specs.State.{State, with_entry}

@@ -1,8 +1,7 @@
 -- A run, a crash, and the next run: each has what it asks for from the one before.
 use Rattle.std.proofs.Common.{◌≡◌, ◌⊎◌, inl, inr, ℕ, List, Option, Some, None, Ok, sym, ap, ◌∙◌}
-use Rattle.tt_disk.specs.Volume.{IsSettled, Keeps}
+use Rattle.tt_disk.specs.Volume.{IsSettled, Keeps, Files}
 use Rattle.tt_disk.specs.declared.volume.Name.{Name}
-use Rattle.tt_log.specs.Walk.{Files}
 use Rattle.tt_log.specs.Log.{MayLeave}
 use Rattle.tt_model.specs.Opened.{Opened}
 use Rattle.tt_model.specs.Prefix.{StandsForPrefix}

@@ -2,11 +2,11 @@
 use Rattle.std.specs.Prelude.{◌≡◌, ℕ, List, [], ◌∷◌, ◌++◌, true, false, Option, Some, None, IfSome, Result, Ok, Err}
 use Rattle.std.specs.Io.KnownBytes.{Appends}
 use Rattle.tt_disk.specs.declared.volume.Name.{Name}
+use Rattle.tt_disk.specs.Volume.{Files}
 use Rattle.tt_flow.specs.Lines.{HasGivenTold}
 use Rattle.tt_flow.specs.declared.lines.LineReader.{LineReader}
 use Rattle.tt_value.specs.declared.reply.Reply.{Reply}
 use Rattle.tt_value.specs.declared.reply.Stop.TheVariants.{Logs}
-use Rattle.tt_log.specs.Walk.{Files}
 use Rattle.tt_log.specs.Log.{CrashLeavesForced}
 use Rattle.tt_model.specs.State.{State}
 use Rattle.tt_engine.specs.declared.engine.Engine.{Engine}

@@ -2,6 +2,7 @@
 use Rattle.std.specs.Prelude.{◌<◌, ◌^◌, ◌≡◌, ◌⊎◌, ℕ, List, [], ◌∷◌, ◌++◌, codes, take, length, Option, Some, None, IsSome, Result, Ok, Err}
 use Rattle.std.specs.Io.KnownBytes.{Appends}
 use Rattle.tt_disk.specs.declared.volume.Name.{Name}
+use Rattle.tt_disk.specs.Volume.{Files}
 use Rattle.tt_disk.specs.declared.volume.Name.TheVariants.{Log as LogFile}
 use Rattle.tt_value.specs.declared.position.Position.{Position}
 use Rattle.tt_value.specs.declared.reply.Stop.TheVariants.{Logs, Images, Backups}
@@ -9,7 +10,6 @@ use Rattle.tt_record.specs.declared.entry.Entry.TheVariants.{Mark}
 use Rattle.tt_record.specs.Entry.{length_of}
 use Rattle.tt_record.specs.Place.{position_of, position}
 use Rattle.tt_set.specs.declared.settings.Settings.{Settings}
-use Rattle.tt_log.specs.Walk.{Files}
 use Rattle.tt_log.specs.Log.{MayLeave}
 use Rattle.tt_model.specs.Opened.{Opened}
 use Rattle.tt_recover.specs.Opening.{opened_from, opening}

@@ -1,12 +1,11 @@
 -- What a run of a script writes, and what its lines leave of the log files.
 use Rattle.std.specs.Prelude.{◌≤◌, ◌≡◌, ◌<◌, ◌-◌, ◌⊎◌, ℕ, List, [], ◌∷◌, ◌++◌, length, take, map, flat_map, filter, true, Option, Some, IfSome}
 use Rattle.std.specs.Io.KnownBytes.{Appends}
-use Rattle.tt_disk.specs.Volume.{Keeps}
+use Rattle.tt_disk.specs.Volume.{Keeps, Files}
 use Rattle.tt_disk.specs.declared.volume.Name.{Name}
 use Rattle.tt_flow.specs.Script.{script_lines, ended_lines, script_most}
 use Rattle.tt_value.specs.declared.reply.Reply.{Reply}
 use Rattle.tt_value.specs.declared.reply.Stop.TheVariants.{Logs}
-use Rattle.tt_log.specs.Walk.{Files}
 use Rattle.tt_model.specs.State.{State, write_position}
 use Rattle.tt_engine.specs.declared.request.Request.{Request}
 use Rattle.tt_engine.specs.Engine.{CallsLog, EndCallsLog}

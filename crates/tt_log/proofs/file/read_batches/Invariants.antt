@@ -1,7 +1,7 @@
 use Rattle.std.proofs.Common.{◌≤◌, ◌<◌, ◌-◌, ◌^◌}
 use Rattle.tt_disk.specs.declared.volume.Name.TheVariants.{Log as LogFile}
 use Rattle.tt_disk.specs.Volume.{Keeps}
-use Rattle.tt_log.specs.Limits.{FILE_MOST}
+use Rattle.tt_log.specs.Limits.{file_most}
 use Rattle.tt_log.specs.File.{IsReached}
 use Rattle.tt_log.specs.Visitor.{VisitsUpTo, at_first}
 use Rattle.tt_disk.specs.Faults.{Stays}
@@ -14,7 +14,7 @@ abbrev pub invariant-batches : goal.invariant-batches
 invariant-batches g l = record {
   some : 0 < l.at.gate;
   inside : l.at.gate < 2 ^ 62;
-  room : l.at.offset ≤ FILE_MOST;
+  room : l.at.offset ≤ file_most;
   later : g.V.Volume.faults l.initial.volume ≤ g.V.Volume.faults l.volume;
   stays : Stays g.V.Volume.exact (g.V.Volume.faults l.initial.volume) (g.V.Volume.faults l.volume);
   keeps : g.V.Volume.told → Keeps (g.V.Volume.now l.initial.volume) (g.V.Volume.now l.volume) (g.V.Volume.may l.initial.volume) (g.V.Volume.may l.volume);

@@ -4,7 +4,7 @@ use Rattle.tt_log.specs.declared.refusal.LogRefusal.{LogRefusal}
 use Rattle.tt_log.specs.declared.refusal.LogRefusal.TheVariants.{Failed, NoMemory}
 use Rattle.tt_log.specs.Log.{entries_in, forced_of, first_file_of, current_file_of}
 use Rattle.tt_log.specs.Opening.{started}
-use Rattle.tt_log.specs.Walk.{Files, LogContents as Read, log_of}
+use Rattle.tt_log.specs.Walk.{LogContents as Read, log_of}
 use Rattle.tt_model.specs.Committed.{no_cells}
 use Rattle.tt_model.specs.Live.{next_number}
 use Rattle.tt_model.specs.Standing.{standing}
@@ -12,6 +12,7 @@ use Rattle.tt_model.specs.Trail.{Trail}
 use Rattle.tt_recover.specs.declared.recovery.Recovered.{Recovered}
 use Rattle.tt_recover.specs.Opening.{newest_first, opening}
 use Rattle.tt_recover.proofs.RecoveryLemmas.{begun_log, recovers, refused_opening}
+use Rattle.tt_disk.specs.Volume.{Files}
 use Rattle.tt_recover.proofs.recovery.recover.Goals as goal
 
 refused_by : (files : Files) (e : LogRefusal) → (e ≡ Failed) ⊎ ((e ≡ NoMemory) ⊎ (started (position 0 0) files ≡ Err e)) → (e ≡ Failed) ⊎ ((e ≡ NoMemory) ⊎ (opening files ≡ Err e))

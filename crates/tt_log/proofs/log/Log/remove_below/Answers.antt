@@ -1,9 +1,13 @@
-use Rattle.std.proofs.Common.{◌∙◌, ◌≤◌, ◌+◌, ap, refl, sym, arith, ℕ, List, Option, subst}
+use Rattle.std.proofs.Common.{◌∙◌, ◌≤◌, ◌+◌, ap, refl, rules, sym, arith, ℕ, List, Option, subst}
 use Rattle.tt_log.specs.Walk.{log_of}
 use Rattle.tt_log.specs.Log.{is_between}
 use Rattle.tt_log.proofs.Forcing.{is_found}
-use Rattle.tt_log.proofs.Purge.{Removed, below_gone, above_gone, ready_between, out_low, out_high, removed_open, removed_forced}
+use Rattle.tt_log.proofs.Purge.{Removed, below_gone, above_gone, out_low, out_high, removed_open, removed_forced}
 use Rattle.std.specs.Prelude.{IsSome}
+use Rattle.std.proofs.lemmas.Result.{on_ok_weaker}
+use Rattle.tt_log.specs.Limits.{log_names_end}
+use Rattle.tt_disk.specs.Volume.{File}
+use Rattle.tt_log.proofs.Switching.{ready_same}
 use Rattle.tt_disk.specs.declared.volume.Name.TheVariants.{Log as LogFile}
 use Rattle.tt_log.proofs.Standing.{file_there}
 use Rattle.tt_log.proofs.log.Log.remove_below.Given.{Over}
@@ -19,7 +23,10 @@ below g c told =
     record {
       shrunk = below_gone log.first_file c.max-self.result log.current_file log.forced_bytes c.args.file _ _ _ _ f (omega (arith, c.max-self.ensures)) (omega (arith, c.max-self.ensures))
           (omega (arith, c.max-self.ensures, c.requires.file, log.ordered)) log.numbers (g.met.V.Volume.reads told c.args.volume.now) (c.remove_logs.ensures.others told);
-      ready = ready_between log.file 0 c.args.file _ _ _ _ (ap (is_between 0 c.args.file) log.named ∙ out_high 0 c.args.file log.current_file c.requires.file) (c.remove_logs.ensures.others told) o.gate;
+      ready =
+          let out = ap (is_between 0 c.args.file) log.named ∙ out_high 0 c.args.file log.current_file c.requires.file in
+          let only = c.remove_logs.ensures.others told in
+          ready_same log.file _ _ _ _ (only.reads log.file.name out) (only.crash log.file.name out) o.gate;
     }
 
 -- once those above are gone, too
@@ -31,7 +38,10 @@ both g c told r =
     let f = is_found (log_of log.first_file (g.V.Volume.now c.args.volume.now)) log.current_file log.forced_bytes o.whole o.end in
     record {
       shrunk = above_gone log.first_file c.max-self.result log.current_file log.forced_bytes _ _ _ _ _ _ _ f (g.met.V.Volume.reads told c.remove_logs.new.volume) r.shrunk (c.remove_logs-2.ensures.others told);
-      ready = ready_between log.file (log.current_file + 1) _ _ _ _ _ (ap (is_between (log.current_file + 1) _) log.named ∙ out_low (log.current_file + 1) _ log.current_file (omega arith)) (c.remove_logs-2.ensures.others told) r.ready;
+      ready =
+          let out = ap (is_between (log.current_file + 1) log_names_end) log.named ∙ out_low (log.current_file + 1) log_names_end log.current_file (omega arith) in
+          let only = c.remove_logs-2.ensures.others told in
+          ready_same log.file _ _ _ _ (only.reads log.file.name out) (only.crash log.file.name out) r.ready;
     }
 
 pub returns-in_err-remove_logs-clause-open : goal.returns-in_err-remove_logs-clause-open
@@ -70,7 +80,7 @@ returns-in_err-remove_logs-clause-there g c told k low high =
     let first : log.first_file ≤ k = omega (arith, c.max-self.ensures, low) in
     let above : c.args.file ≤ k = omega (arith, c.max-self.ensures, low) in
     let stays = (c.remove_logs.ensures.others told).reads (LogFile k) (out_high 0 c.args.file k above) in
-    subst (λ (f : Option (List ℕ)). IsSome f) (sym stays) (file_there log (g.V.Volume.now c.args.volume.now) k (o.whole, o.end) first high log.numbers)
+    subst (λ (f : File). IsSome f) (sym stays) (file_there log (g.V.Volume.now c.args.volume.now) k (o.whole, o.end) first high log.numbers)
 
 pub returns-clause-there : goal.returns-clause-there
 returns-clause-there g c told k low high =
@@ -80,21 +90,22 @@ returns-clause-there g c told k low high =
     let above : c.args.file ≤ k = omega (arith, c.max-self.ensures, low) in
     let stays = (c.remove_logs.ensures.others told).reads (LogFile k) (out_high 0 c.args.file k above) in
     let stays2 = (c.remove_logs-2.ensures.others told).reads (LogFile k) (out_low (log.current_file + 1) _ k (omega (arith, high))) in
-    subst (λ (f : Option (List ℕ)). IsSome f) (sym (stays2 ∙ stays)) (file_there log (g.V.Volume.now c.args.volume.now) k (o.whole, o.end) first high log.numbers)
+    subst (λ (f : File). IsSome f) (sym (stays2 ∙ stays)) (file_there log (g.V.Volume.now c.args.volume.now) k (o.whole, o.end) first high log.numbers)
 
-pub returns-in_err-remove_logs-clause-stay : goal.returns-in_err-remove_logs-clause-stay
-returns-in_err-remove_logs-clause-stay g c told k low high =
-    let only = c.remove_logs.ensures.others told in
-    let out = out_high 0 c.args.file k low in
-    record { reads = only.reads (LogFile k) out; crash = only.crash (LogFile k) out }
-
-pub returns-clause-stay : goal.returns-clause-stay
-returns-clause-stay g c told k low high =
-    let first = c.remove_logs.ensures.others told in
-    let second = c.remove_logs-2.ensures.others told in
-    let below = out_high 0 c.args.file k low in
-    let above = out_low (c.args.self.now.current_file + 1) _ k (omega (arith, high)) in
+pub returns-clause-removes : goal.returns-clause-removes
+returns-clause-removes g c =
+    let log = c.args.self.now in
+    let second = c.remove_logs-2.ensures.others in
+    let out = λ (k : ℕ) (low : k ≤ log.current_file). out_low (log.current_file + 1) log_names_end k (omega (arith, low)) in
     record {
-      reads = second.reads (LogFile k) above ∙ first.reads (LogFile k) below;
-      crash = λ content may. first.crash (LogFile k) below content (second.crash (LogFile k) above content may);
+      below = on_ok_weaker c.remove_logs-2.result (λ _ told k low high. (second told).reads (LogFile k) (out k (omega (arith, c.requires.file, high))) ∙ c.in_ok-remove_logs.ensures.gone told k low high) c.remove_logs-2.ensures.gone;
+      above = on_ok_weaker c.remove_logs-2.result (λ gone told k low high. gone told k (omega (arith, low)) high) c.remove_logs-2.ensures.gone;
+      ascending = λ told.
+          let first = c.remove_logs.ensures.ascending told in
+          record {
+            at = first.at;
+            gone = λ k low under high. (second told).reads (LogFile k) (out k (omega (arith, c.requires.file, high))) ∙ first.gone k low under high;
+            above = λ k over high. (second told).reads (LogFile k) (out k (omega (arith, c.requires.file, high))) ∙ first.above k over high;
+          };
+      others = search rules;
     }

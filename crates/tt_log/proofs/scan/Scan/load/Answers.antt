@@ -1,4 +1,4 @@
-use Rattle.std.proofs.Common.{◌<◌, ℕ, arith, sym, subst}
+use Rattle.std.proofs.Common.{◌<◌, ℕ, arith, refl, sym, subst}
 use Rattle.tt_disk.specs.declared.volume.Name.TheVariants.{Log as LogFile}
 use Rattle.std.specs.Prelude.{IsOk}
 use Rattle.tt_log.proofs.Following.{Standing}
@@ -6,11 +6,16 @@ use Rattle.tt_log.proofs.Reaching.{is_closed, is_switched, is_plain, is_refused}
 use Rattle.tt_log.proofs.Scanning.{same_files, Filled, closed_ahead, switched_ahead, switched_going, filled_ahead, filled_going, load_refused}
 use Rattle.tt_log.proofs.scan.Scan.load.Goals as goal
 
-pub returns-in-Ok-Closed-clause-nothing : goal.returns-in-Ok-Closed-clause-nothing
-returns-in-Ok-Closed-clause-nothing g c _ told =
+pub returns-in-Ok-Closed-clause-loads : goal.returns-in-Ok-Closed-clause-loads
+returns-in-Ok-Closed-clause-loads g c =
     let s = c.args.self.now in
-    closed_ahead s (g.V.Volume.now c.args.volume.now) c.requires.begun c.requires.none
-    (is_closed s.file s.gate s.offset _ c.read_batch.result c.in-Ok-Closed.field-0 (c.read_batch.ensures.exact told) c.in-Ok-Closed.is c.in-Ok-Closed.field-0-is)
+    record {
+      body = λ is. cc;
+      switched = λ is. cc;
+      nothing = λ _ told. closed_ahead s (g.V.Volume.now c.args.volume.now) c.requires.begun c.requires.none
+          (is_closed s.file s.gate s.offset _ c.read_batch.result c.in-Ok-Closed.field-0 (c.read_batch.ensures.exact told) c.in-Ok-Closed.is c.in-Ok-Closed.field-0-is);
+      fewer = λ other. absurd (other refl);
+    }
 
 pub returns-in-Ok-Switched-clause-steps : goal.returns-in-Ok-Switched-clause-steps
 returns-in-Ok-Switched-clause-steps g c =

@@ -11,19 +11,18 @@ passed c = record {
   within = subst (λ (l : List ℕ). c.args.self.now.at + c.in-Ok-Some.n ≤ length l) c.deref.ensures.value (rw c.in-Ok-Some.field-0-is at c.in-Ok-Some.ensures.within).1;
   at = c.pass.ensures.at;
   offset = c.pass.ensures.offset;
-  file = c.pass.ensures.still.1;
-  begun = c.pass.ensures.still.2;
-  gate = c.pass.ensures.still.3;
-  body_is = c.pass.ensures.still.4;
+  file = c.pass.ensures.still.file;
+  begun = c.pass.ensures.begun;
+  gate = c.pass.ensures.still.gate;
+  body_is = c.pass.ensures.still.body;
 }
 
-pub returns-in-Ok-Some-clause-going : goal.returns-in-Ok-Some-clause-going
-returns-in-Ok-Some-clause-going c files going = passed_going _ _ files _ _ going (passed (goal.at.returns-in-Ok-Some-clause-going c).After-pass)
+pub returns-in-Ok-Some-clause-takes : goal.returns-in-Ok-Some-clause-takes
+returns-in-Ok-Some-clause-takes c files going =
+    let p = passed (goal.at.returns-in-Ok-Some-clause-takes c).After-pass in
+    record { going = passed_going _ _ files _ _ going p; gives = passed_ahead _ _ files _ _ going p; refused = tt }
 
-pub returns-in-Ok-Some-clause-given : goal.returns-in-Ok-Some-clause-given
-returns-in-Ok-Some-clause-given c files going = passed_ahead _ _ files _ _ going (passed (goal.at.returns-in-Ok-Some-clause-given c).After-pass)
-
-pub returns-in-Ok-None-clause-refused : goal.returns-in-Ok-None-clause-refused
-returns-in-Ok-None-clause-refused c files going =
+pub returns-in-Ok-None-clause-takes : goal.returns-in-Ok-None-clause-takes
+returns-in-Ok-None-clause-takes c files going =
     let s = c.args.self.now in
     absurd (entry_good s files going c.requires.some (ap (λ (l : List ℕ). entry_at (drop s.at l)) (sym c.deref.ensures.value) ∙ sym c.in-Ok-None.ensures.first ∙ c.in-Ok-None.field-0-is))
