@@ -17,6 +17,7 @@ use Rattle.tt_engine.specs.declared.memory.Memory.{Memory}
 use Rattle.tt_model.specs.Entries.{IsPlain}
 use Rattle.tt_model.specs.Works.{SameLog, performed}
 use Rattle.tt_journal.specs.Journal.{Breaks, Outcomes, Writes, listed}
+use Rattle.tt_log.specs.Calls.{IsOpenOn}
 use Rattle.tt_log.specs.Log.{IsOpen, CrashLeavesForced}
 use Rattle.tt_engine.specs.declared.rows.Rows.{Rows}
 use Rattle.tt_disk.specs.declared.volume.Failed.{Failed}
@@ -29,6 +30,10 @@ use Rattle.tt_engine.specs.declared.request.Request.{Request}
 use Rattle.tt_engine.specs.Request.{Answers, answer, kv, row_of, script_ended, sees_key}
 use Rattle.tt_engine.specs.Memory.{InMemory}
 use Rattle.tt_disk.specs.declared.volume.Volume.{Ghosts}
+
+-- The engine is up on a volume: the files of its log stand there as its last call left them.
+abbrev pub IsUpOn : {V : Type 0} → Ghosts V → Engine → V → Type 0
+IsUpOn g e logs = IsOpenOn g e.log logs
 
 -- The engine stands for a state: its log for the trail, its memory for the tables.
 pub record Represents (e : Engine) (now : Files) (s : State) : Type 0 where

@@ -3,7 +3,6 @@
 ghost use Rattle.std.specs.Prelude.{◌≡◌, ◌≤◌, ◌^◌, IsSome, IfOk};
 ghost use Rattle.tt_record.specs.Limits.{transactions_end};
 ghost use Rattle.tt_engine.specs.Calls.{OpensOn, StepsOn, EndsOn};
-ghost use Rattle.tt_log.specs.Calls.{IsOpenOn};
 ghost use Rattle.tt_disk.specs.Calls.{HasFile};
 ghost use Rattle.tt_disk.specs.Faults.{HasCause};
 ghost use Rattle.tt_log.specs.Log.{IsOpen};
@@ -36,7 +35,7 @@ impl Engine {
     ghost use Rattle.tt_disk.specs.declared.volume.Name.TheVariants.{Log as LogFile};
     ghost use Rattle.tt_set.specs.Settings.{AreInRange};
     ghost use Rattle.tt_model.specs.Opened.{Opened};
-    ghost use Rattle.tt_engine.specs.Engine.{Ends, Steps};
+    ghost use Rattle.tt_engine.specs.Engine.{Ends, IsUpOn, Steps};
     ghost use Rattle.tt_engine.specs.Overs.{IsOver};
     ghost use Rattle.tt_engine.specs.Starts.{Opens, begun_over};
 
@@ -121,7 +120,7 @@ impl Engine {
         logs: &mut L,
         request: Request,
     ) -> Result<Reply, Failed>
-        requires open { IsOpenOn L.Volume self.old.log logs.old }
+        requires open { IsUpOn L.Volume self.old logs.old }
         ensures steps { StepsOn L.Volume self.old logs.old request self.new logs.new result }
         ensures given { IfOk result IsReplyInUse }
         ensures cause { HasCause L.exact (L.faults logs.old) (L.faults logs.new) result }
@@ -139,7 +138,7 @@ impl Engine {
 
     /// The end of a script: forces the log. Where a call failed, a crash leaves all that was forced before, or all that there is.
     pub fn end<L: Volume>(&mut self, logs: &mut L) -> Result<(), Failed>
-        requires open { IsOpenOn L.Volume self.old.log logs.old }
+        requires open { IsUpOn L.Volume self.old logs.old }
         ensures ends { EndsOn L.Volume self.old logs.old self.new logs.new result }
         ensures cause { HasCause L.exact (L.faults logs.old) (L.faults logs.new) result }
     {
