@@ -1,5 +1,5 @@
 -- What a crash leaves of a log around a write to its last file.
-use Rattle.std.proofs.Common.{◌≡◌, ◌≤◌, ◌<◌, ◌+◌, ◌-◌, ◌==◌, ℕ, List, [], refl, sym, ap, ◌∙◌, subst, Bool, true, false, arith, Option, Some, Ok, if◌then◌else◌}
+use Rattle.std.proofs.Common.{◌≡◌, ◌≤◌, ◌<◌, ◌+◌, ◌-◌, ◌==◌, ℕ, List, [], refl, sym, ap, ◌∙◌, subst, Bool, true, false, arith, Some, Ok, if◌then◌else◌}
 use Rattle.std.proofs.lemmas.Bool.{eq-eqb, eqb-true}
 use Rattle.tt_disk.specs.declared.volume.Name.{Name}
 use Rattle.tt_disk.specs.Volume.{Files, Outcomes, File}

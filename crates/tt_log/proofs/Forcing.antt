@@ -1,5 +1,5 @@
 -- A batch of entries behind the last file of a log.
-use Rattle.std.proofs.Common.{◌≡◌, ◌≤◌, ◌+◌, ◌⊎◌, inl, inr, ⊎_elim, ℕ, List, [], ◌++◌, take, drop, refl, sym, ap, ◌∙◌, subst, true, arith, Option, Some, Result, Ok, Err}
+use Rattle.std.proofs.Common.{◌≡◌, ◌≤◌, ◌+◌, ◌⊎◌, inl, inr, ⊎_elim, ℕ, List, [], ◌++◌, take, drop, refl, sym, ap, ◌∙◌, subst, true, arith, Some, Result, Ok, Err}
 use Rattle.std.specs.Prelude.{IsOk}
 use Rattle.std.proofs.lemmas.List.{append-nil}
 use Rattle.tt_disk.specs.declared.volume.Name.{Name}

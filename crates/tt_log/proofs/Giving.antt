@@ -1,6 +1,6 @@
 -- What a scan gives.
 use Rattle.std.proofs.Common.{◌≡◌, ◌<◌, ◌≤◌, ◌+◌, ◌-◌, ◌==◌, ◌&&◌, ◌||◌, ℕ, List, [], ◌∷◌, filter, nat_le, nat_lt, not, Bool, true, false, Option, Result, Ok, Err, refl, sym, ap, ◌∙◌, subst, arith, if◌then◌else◌}
-use Rattle.std.specs.Prelude.{IsOk, IfOk, IfErr, length}
+use Rattle.std.specs.Prelude.{IsOk, length}
 use Rattle.std.proofs.lemmas.Bool.{le-leb, eqb-true, ltb-true}
 use Rattle.tt_value.specs.declared.position.Position.{Position}
 use Rattle.tt_record.specs.declared.entry.Entry.{Entry}

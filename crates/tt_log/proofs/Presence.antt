@@ -1,5 +1,5 @@
 -- Which log files are there behind a call.
-use Rattle.std.proofs.Common.{◌≡◌, ◌⊎◌, inr, ◌+◌, ◌≤◌, ℕ, Bool, true, false, nat_eq, List, Option, Some, None, if◌then◌else◌, refl, sym, ap, ◌∙◌, arith}
+use Rattle.std.proofs.Common.{◌≡◌, ◌⊎◌, inr, ◌+◌, ◌≤◌, ℕ, Bool, true, false, nat_eq, Some, None, if◌then◌else◌, refl, sym, ap, ◌∙◌, arith}
 use Rattle.std.specs.Prelude.{IsSome, is_some, OnOk, OnErr, Result, Ok, Err}
 use Rattle.tt_disk.specs.Volume.{OnlyAt, Files, Outcomes, File}
 use Rattle.tt_disk.specs.declared.volume.Name.TheVariants.{Log as LogFile}

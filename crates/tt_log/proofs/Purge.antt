@@ -9,10 +9,9 @@ use Rattle.tt_record.specs.Place.{position}
 use Rattle.tt_log.specs.Log.{MayLeave, CrashLeavesLog, IsOpen, is_between, OnlyBetween, walk_end, entries_in, or_none, unforced}
 use Rattle.tt_log.proofs.Crash.{same_in}
 use Rattle.std.specs.Prelude.{IsOk}
-use Rattle.tt_disk.specs.Volume.{size_of, Files, Outcomes}
-use Rattle.tt_gate.specs.declared.gate.GateFile.{GateFile}
-use Rattle.tt_gate.specs.Gate.{gated, end_of as gate_end}
-use Rattle.tt_gate.specs.GateFile.{IsReady, bodies_of}
+use Rattle.tt_disk.specs.Volume.{Files, Outcomes}
+use Rattle.tt_gate.specs.Gate.{gated}
+use Rattle.tt_gate.specs.GateFile.{IsReady}
 use Rattle.tt_record.specs.declared.entry.Entry.{Entry}
 use Rattle.tt_record.specs.Read.{entries_of}
 use Rattle.tt_record.specs.Entry.{IsBody}

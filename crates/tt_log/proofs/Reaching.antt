@@ -1,5 +1,5 @@
 -- How far the entries of a file were read.
-use Rattle.std.proofs.Common.{◌≡◌, ◌+◌, ◌==◌, ◌||◌, ℕ, List, [], ◌++◌, length, Bool, true, false, Option, Some, Result, Ok, Err, refl, sym, ap, ◌∙◌, subst, arith, append_assoc}
+use Rattle.std.proofs.Common.{◌≡◌, ◌+◌, ◌==◌, ◌||◌, ℕ, List, [], ◌++◌, length, Bool, true, false, Result, Ok, Err, refl, sym, ap, ◌∙◌, subst, arith, append_assoc}
 use Rattle.std.proofs.lemmas.List.{append-nil}
 use Rattle.std.specs.Prelude.{Vec}
 use Rattle.std.specs.declared.alloc.Global.{Global}
@@ -8,7 +8,6 @@ use Rattle.tt_gate.specs.Gate.{gate_in}
 use Rattle.tt_gate.specs.GateFile.{IsEnd as IsGateEnd}
 use Rattle.tt_gate.specs.Walk.{IsGate, first_gate, next_gate, last_gate}
 use Rattle.tt_record.specs.declared.entry.Entry.{Entry}
-use Rattle.tt_record.specs.Read.{entries_of}
 use Rattle.tt_log.specs.Lengths.{total}
 use Rattle.tt_log.specs.declared.batch.Batch.{Batch}
 use Rattle.tt_log.specs.declared.batch.Batch.TheVariants.{Closed, Switched, Entries}

@@ -1,5 +1,5 @@
 -- The change to the next file.
-use Rattle.std.proofs.Common.{◌≡◌, ◌≤◌, ◌<◌, ◌+◌, ◌-◌, ◌&&◌, ◌⊎◌, ⊎_elim, inl, inr, ℕ, zero, suc, List, [], ◌∷◌, ◌++◌, refl, sym, ap, ◌∙◌, subst, Bool, true, false, arith, Option, Some, Result, Ok, nat_lt}
+use Rattle.std.proofs.Common.{◌≡◌, ◌≤◌, ◌<◌, ◌+◌, ◌-◌, ◌&&◌, ◌⊎◌, ⊎_elim, inl, inr, ℕ, zero, suc, List, [], ◌∷◌, refl, sym, ap, ◌∙◌, subst, Bool, true, false, arith, Some, Result, Ok, nat_lt}
 use Rattle.std.specs.Prelude.{IsOk}
 use Rattle.std.proofs.lemmas.Bool.{eq-eqb, lt-ltb}
 use Rattle.tt_disk.specs.declared.volume.Name.{Name}
@@ -8,18 +8,14 @@ use Rattle.tt_disk.specs.Volume.{IsSettled, size_of, OnlyAt, Files, Outcomes, Fi
 use Rattle.tt_gate.specs.declared.gate.GateFile.{GateFile}
 use Rattle.tt_gate.specs.declared.gate.GateRefusal.{GateRefusal}
 use Rattle.tt_gate.specs.Gate.{gated, end_of as gate_end}
-use Rattle.tt_gate.specs.GateFile.{with_batch, bodies_of, staged_in, IsReady, CrashLeavesFormerOrMore}
-use Rattle.tt_record.specs.declared.entry.Entry.{Entry}
+use Rattle.tt_gate.specs.GateFile.{with_batch, bodies_of, IsReady}
 use Rattle.tt_record.specs.declared.entry.Entry.TheVariants.{Switch}
-use Rattle.tt_record.specs.Entry.{entry_bytes, IsBody}
-use Rattle.tt_record.specs.BodyLaws.{body_is_read}
 use Rattle.tt_record.specs.Read.{entries_of}
 use Rattle.tt_log.specs.declared.log.Log.{Log}
-use Rattle.tt_log.specs.declared.refusal.LogRefusal.{LogRefusal}
-use Rattle.tt_log.specs.Walk.{LogContents, walk, on_part, file_read, nothing, log_of, with_more, switched, switches, log_header}
+use Rattle.tt_log.specs.Walk.{walk, on_part, file_read, nothing, log_of, with_more, switched, switches, log_header}
 use Rattle.tt_record.specs.Place.{position}
-use Rattle.tt_log.specs.Log.{IsOpen, MayLeave, CrashLeavesLog, CrashLeavesForced, OnlyTwo, IsUntouched, unforced, walk_end}
-use Rattle.tt_log.proofs.Crash.{Around, put_log, put_apart, put_left, all_left, same_in, switched_in, left_same, left_switched}
+use Rattle.tt_log.specs.Log.{MayLeave, CrashLeavesLog, CrashLeavesForced, OnlyTwo, IsUntouched, unforced, walk_end}
+use Rattle.tt_log.proofs.Crash.{Around, put_log, put_apart, put_left, same_in, switched_in, left_switched}
 use Rattle.tt_log.proofs.FileParts.{file_made}
 use Rattle.tt_log.proofs.Forcing.{IsFound, Written, one_or_more}
 use Rattle.tt_log.proofs.Following.{Standing}

@@ -1,6 +1,6 @@
 -- The words of `Log` at a bound `V: Volume`: how its files stand on the volume, what a call does to them, and what a crash
 -- leaves there. Each ends in `On`. Of a volume that tells nothing they say nothing.
-use Rattle.std.specs.Prelude.{◌≡◌, ◌⊎◌, ◌<◌, ◌≤◌, ◌+◌, ◌++◌, ◌∷◌, [], ℕ, List, filter, Bool, true, false, if◌then◌else◌, IfOk, IfErr, OnOk, OnErr, IsSome, None, Result, Ok, Err}
+use Rattle.std.specs.Prelude.{◌≡◌, ◌⊎◌, ◌<◌, ◌≤◌, ◌+◌, ◌++◌, ◌∷◌, [], ℕ, filter, Bool, true, false, if◌then◌else◌, IfOk, IfErr, OnOk, OnErr, IsSome, None, Result, Ok, Err}
 use Rattle.tt_disk.specs.Volume.{Files, File}
 use Rattle.tt_disk.specs.declared.volume.Name.TheVariants.{Log as LogFile}
 use Rattle.tt_disk.specs.declared.volume.Volume.{Ghosts}

@@ -1,5 +1,5 @@
 -- What the walk through the files of a log has found.
-use Rattle.std.specs.Prelude.{◌+◌, ◌||◌, length, Some, IfOk, OnOk, ◌≡◌, ◌⊎◌, ◌<◌, ◌≤◌, ℕ, List, true, false, Option, Result, Ok, Err}
+use Rattle.std.specs.Prelude.{◌+◌, ◌||◌, length, Some, IfOk, OnOk, ◌≡◌, ◌⊎◌, ◌<◌, ◌≤◌, ℕ, List, true, false, Result, Ok, Err}
 use Rattle.tt_disk.specs.declared.volume.Name.TheVariants.{Log as LogFile}
 use Rattle.tt_disk.specs.Volume.{Files, File}
 use Rattle.tt_record.specs.Limits.{log_files_end}

@@ -1,6 +1,5 @@
 -- What the layers above may know of a log.
 use Rattle.std.proofs.Common.{◌≡◌, ◌∙◌, ℕ, List, ◌∷◌, true, false, Option, Some, None, refl, sym, ap, subst}
-use Rattle.tt_disk.specs.declared.volume.Name.{Name}
 use Rattle.std.specs.Prelude.{IsOk}
 use Rattle.tt_disk.specs.Volume.{Keeps, Files, Outcomes}
 use Rattle.tt_gate.specs.Laws.{ready_kept}

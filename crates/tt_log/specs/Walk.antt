@@ -2,7 +2,6 @@
 use Rattle.std.specs.Prelude.{◌+◌, ◌-◌, ◌&&◌, ◌||◌, ◌==◌, ℕ, zero, suc, List, [], ◌∷◌, ◌++◌, length, take, filter, nat_le, nat_lt, if◌then◌else◌, Bool, true, false, Option, Some, None, Result, Ok, Err}
 use Rattle.tt_disk.specs.Volume.{bytes_of, File, Files}
 use Rattle.tt_record.specs.Limits.{log_files_end}
-use Rattle.tt_disk.specs.declared.volume.Name.{Name}
 use Rattle.tt_disk.specs.declared.volume.Name.TheVariants.{Log}
 use Rattle.tt_gate.specs.declared.gate.GateRefusal.{GateRefusal}
 use Rattle.tt_gate.specs.declared.gate.GateRefusal.TheVariants.{Absent, BadHeader, BadBatch as GateBad, Failed as GateFailed}

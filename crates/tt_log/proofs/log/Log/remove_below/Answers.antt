@@ -1,4 +1,4 @@
-use Rattle.std.proofs.Common.{◌∙◌, ◌≤◌, ◌+◌, ap, refl, rules, sym, arith, ℕ, List, Option, subst}
+use Rattle.std.proofs.Common.{◌∙◌, ◌≤◌, ◌+◌, ap, refl, rules, sym, arith, ℕ, subst}
 use Rattle.tt_log.specs.Walk.{log_of}
 use Rattle.tt_log.specs.Log.{is_between}
 use Rattle.tt_log.proofs.Forcing.{is_found}

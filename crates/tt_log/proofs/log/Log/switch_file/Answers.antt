@@ -1,10 +1,10 @@
-use Rattle.std.proofs.Common.{◌≡◌, ◌⊎◌, ◌+◌, inl, inr, ℕ, List, rules, sym, ap, ◌∙◌, subst, arith}
+use Rattle.std.proofs.Common.{◌≡◌, ◌+◌, inl, inr, ℕ, rules, sym, ap, ◌∙◌, subst, arith}
 use Rattle.std.specs.Prelude.{IsOk}
-use Rattle.tt_disk.specs.Volume.{Files, IsSettled, OnlyAt}
+use Rattle.tt_disk.specs.Volume.{IsSettled, OnlyAt}
 use Rattle.tt_disk.specs.declared.volume.Name.TheVariants.{Log as LogFile}
 use Rattle.tt_record.specs.BodyLaws.{body_is_read}
-use Rattle.tt_log.specs.Walk.{log_of, switched, with_more}
-use Rattle.tt_log.specs.Log.{CrashLeavesAll, CrashLeavesForced, OnlyTwo, unforced, walk_end}
+use Rattle.tt_log.specs.Walk.{log_of, switched}
+use Rattle.tt_log.specs.Log.{CrashLeavesAll, CrashLeavesForced, OnlyTwo, walk_end}
 use Rattle.tt_log.proofs.Forcing.{Written, written, done, found_open, around}
 use Rattle.tt_log.proofs.Switching.{Moved, NextMade, made_now, around_made, header_made, switched_left, switched_now, switched_kept, switched_end, ready_same, apart_next, only_two}
 use Rattle.tt_log.proofs.Trails.{leaves_all}

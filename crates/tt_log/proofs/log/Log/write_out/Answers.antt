@@ -1,4 +1,4 @@
-use Rattle.std.proofs.Common.{◌≡◌, inl, inr, ⊎_elim, ℕ, [], List, take, refl, arith, rules, sym, ap, ◌∙◌, subst, Result}
+use Rattle.std.proofs.Common.{inl, inr, ⊎_elim, ℕ, [], List, take, refl, arith, rules, sym, ap, ◌∙◌, subst, Result}
 use Rattle.std.specs.Prelude.{IsOk}
 use Rattle.tt_disk.specs.Volume.{Files, IsSettled}
 use Rattle.tt_record.specs.Entry.{IsBody}
