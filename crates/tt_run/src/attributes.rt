@@ -3,7 +3,8 @@ ghost use Rattle.std.specs.Prelude.{◌≡◌, ◌⊎◌, ◌≤◌, ◌+◌, �
 ghost use Rattle.tt_disk.specs.Faults.{HasCause, RoseWhere};
 ghost use Rattle.tt_set.specs.Settings.{AreInRange, Says};
 ghost use Rattle.tt_set.specs.declared.settings.Settings.{Settings};
-ghost use Rattle.tt_run.specs.TopCall.{SaysOnly, SourceRose};
+ghost use Rattle.tt_run.specs.Devices.{SourceRose};
+ghost use Rattle.tt_run.specs.TopCall.{SaysOnly};
 ghost use Rattle.tt_run.specs.Attributes.{IsFrom, IsSaid, IsReadEnd, IsUnread};
 
 use crate::status::Status;
