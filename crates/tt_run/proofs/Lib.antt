@@ -1,4 +1,5 @@
 pub mod FaultLemmas
+pub mod LineLemmas
 pub mod OpenLemmas
 pub mod RunLemmas
 pub mod SettingsLemmas
