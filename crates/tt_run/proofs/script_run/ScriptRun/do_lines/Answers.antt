@@ -1,44 +1,50 @@
-use Rattle.std.proofs.Common.{Some, ap}
-use Rattle.tt_run.specs.declared.status.Status.{Status}
+use Rattle.std.proofs.Common.{refl}
 use Rattle.tt_engine.specs.RepresentsLaws.{forced_now, forced_settled}
-use Rattle.tt_run.proofs.FaultLemmas.{none_failed, not_called, rose_behind, rose_if}
+use Rattle.tt_run.specs.Run.{moment}
+use Rattle.tt_run.proofs.FaultLemmas.{none_failed, not_called, rose_behind}
 use Rattle.tt_run.proofs.RunLemmas.{begins_run}
-use Rattle.tt_run.proofs.top_call.do_lines.Goals as goal
+use Rattle.tt_run.proofs.script_run.ScriptRun.do_lines.Goals as goal
 
 pub lines-init : goal.lines-init
 lines-init g c = record {
   ready = c.requires.open;
+  references = (refl, refl, refl);
   scripts = not_called _ ⊥ _ (λ none. none);
   sinks = not_called _ ⊥ _ (λ none. none);
   volumes = not_called _ ⊥ _ (λ none. none);
   running = λ told start stands. (
     start,
-    begins_run g.L.Volume c.args.engine (record { state = start; logs = c.args.logs.now }) (g.S.Source.left c.args.script.now) (g.K.Sink.given c.args.sink.now) c.new-reader.result c.new-reader.ensures stands
-        (record { files = stands.log.files; opens = forced_now c.args.engine (g.L.Volume.now c.args.logs.now) (g.L.Volume.may c.args.logs.now) start stands (c.requires.open told); settled_again = forced_settled c.args.engine (g.L.Volume.now c.args.logs.now) (g.L.Volume.may c.args.logs.now) start stands (c.requires.open told) }),
+    begins_run g.L.Volume c.args.self.now.engine (moment start c.args.self.now.logs.now) (g.S.Source.left c.args.self.now.script.now) (g.K.Sink.given c.args.self.now.sink.now) c.args.self.now.reader c.requires.start stands
+        (record {
+          files = stands.log.files;
+          opens = forced_now c.args.self.now.engine (g.L.Volume.now c.args.self.now.logs.now) (g.L.Volume.may c.args.self.now.logs.now) start stands (c.requires.open told);
+          settled_again = forced_settled c.args.self.now.engine (g.L.Volume.now c.args.self.now.logs.now) (g.L.Volume.may c.args.self.now.logs.now) start stands (c.requires.open told);
+        }),
   );
 }
 
 pub returns-in-Some-clause-ran : goal.returns-in-Some-clause-ran
 returns-in-Some-clause-ran g c = λ told start stands.
     let (s, running) = c.lines.invariant.running told start stands in
-    c.in-Some.ensures.step told c.args.engine (record { state = start; logs = c.args.logs.now }) (g.S.Source.left c.args.script.now) (g.K.Sink.given c.args.sink.now) s running
+    c.in-Some.ensures.step told c.args.self.now.engine (moment start c.args.self.now.logs.now) (g.S.Source.left c.args.self.now.script.now) (g.K.Sink.given c.args.self.now.sink.now) s running
 
 pub lines-preserved : goal.lines-preserved
 lines-preserved g c = record {
   ready = c.in-None.ensures.open;
-  scripts = rose_behind _ ⊥ _ _ _ c.lines.invariant.scripts (none_failed _ _ _ _ (λ is. cc) c.in-None.ensures.script_fault);
-  sinks = rose_behind _ ⊥ _ _ _ c.lines.invariant.sinks (none_failed _ _ _ _ (λ is. cc) c.in-None.ensures.sink_fault);
-  volumes = rose_behind _ ⊥ _ _ _ c.lines.invariant.volumes (none_failed _ _ _ _ (λ is. cc) c.in-None.ensures.logs_fault);
+  references = c.lines.invariant.references;
+  scripts = rose_behind _ ⊥ _ _ _ c.lines.invariant.scripts (none_failed _ _ _ _ (λ named. named) c.in-None.ensures.script_fault);
+  sinks = rose_behind _ ⊥ _ _ _ c.lines.invariant.sinks (none_failed _ _ _ _ (λ named. named) c.in-None.ensures.sink_fault);
+  volumes = rose_behind _ ⊥ _ _ _ c.lines.invariant.volumes (none_failed _ _ _ _ (λ named. named) c.in-None.ensures.logs_fault);
   running = λ told start stands.
       let (s, running) = c.lines.invariant.running told start stands in
-      c.in-None.ensures.step told c.args.engine (record { state = start; logs = c.args.logs.now }) (g.S.Source.left c.args.script.now) (g.K.Sink.given c.args.sink.now) s running;
+      c.in-None.ensures.step told c.args.self.now.engine (moment start c.args.self.now.logs.now) (g.S.Source.left c.args.self.now.script.now) (g.K.Sink.given c.args.self.now.sink.now) s running;
 }
 
 pub returns-in-Some-clause-script_fault : goal.returns-in-Some-clause-script_fault
-returns-in-Some-clause-script_fault g c = rose_behind _ _ _ _ _ c.lines.invariant.scripts (rose_if _ _ _ _ _ (λ is. cc) (λ is. ap (λ (s : Status). Some s) is) c.in-Some.ensures.script_fault)
+returns-in-Some-clause-script_fault g c = rose_behind _ _ _ _ _ c.lines.invariant.scripts c.in-Some.ensures.script_fault
 
 pub returns-in-Some-clause-sink_fault : goal.returns-in-Some-clause-sink_fault
-returns-in-Some-clause-sink_fault g c = rose_behind _ _ _ _ _ c.lines.invariant.sinks (rose_if _ _ _ _ _ (λ is. cc) (λ is. ap (λ (s : Status). Some s) is) c.in-Some.ensures.sink_fault)
+returns-in-Some-clause-sink_fault g c = rose_behind _ _ _ _ _ c.lines.invariant.sinks c.in-Some.ensures.sink_fault
 
 pub returns-in-Some-clause-logs_fault : goal.returns-in-Some-clause-logs_fault
-returns-in-Some-clause-logs_fault g c = rose_behind _ _ _ _ _ c.lines.invariant.volumes (rose_if _ _ _ _ _ (λ is. cc) (λ is. ap (λ (s : Status). Some s) is) c.in-Some.ensures.logs_fault)
+returns-in-Some-clause-logs_fault g c = rose_behind _ _ _ _ _ c.lines.invariant.volumes c.in-Some.ensures.logs_fault
