@@ -13,7 +13,7 @@ use Rattle.tt_value.specs.declared.reply.Stop.TheVariants.{Logs}
 use Rattle.tt_model.specs.State.{State}
 use Rattle.tt_engine.specs.declared.engine.Engine.{Engine}
 use Rattle.tt_engine.specs.declared.request.Request.{Request}
-use Rattle.tt_engine.specs.Engine.{Steps}
+use Rattle.tt_engine.specs.Engine.{Represents, Steps}
 use Rattle.tt_engine.specs.RepresentsLaws.{forced_now, forced_settled}
 use Rattle.tt_run.specs.declared.run_end.Round.{Round}
 use Rattle.tt_run.specs.declared.run_end.RunEnd.{RunEnd}
@@ -46,7 +46,7 @@ round_ends k g request b c z r result made written = by made.result made.is
         let unstopped : r.stop ≡ None = ap (λ (x : Round). x.stop) is in
         elim (written.answered reply (ap (λ (x : Round). x.reply) is)) [
           inl w ↦ goes unstopped (w.1 ∙ ap (λ (o : Option Stop). end_of (Some reply) o) unstopped)
-          | inr w ↦ sinks unstopped (w.1.1 ∙ ap (λ (o : Option Stop). Some (AtSink o)) unstopped)
+          | inr w ↦ sinks unstopped (w.2 ∙ ap (λ (o : Option Stop). Some (AtSink o)) unstopped)
         ]
     by (Err failed) is =
         let stopped : r.stop ≡ Some Logs = ap (λ (x : Round). x.stop) is in
@@ -101,7 +101,7 @@ script_over s k g a b read only told first start script before state running =
 -- the end of the script
 pub script_ends : {S K L : Type 0} (s : SourceGhosts S) (k : SinkGhosts K) (g : Ghosts L) (a b z : ScriptRun S K L) (end : RunEnd) → ReadsNext s a b (Ok End) → OnlyScript a b → EndsScript g b z end → OnlyLogs b z → DoesLine s k g a z (Some end)
 script_ends s k g a b z end read only ended rest told first start script before state running =
-    let stands = rw (only.engine, only.logs) running.stands in
+    let stands : Represents b.engine (g.now b.logs.now) state = rw (only.engine, only.logs) (running.stands) in
     let left : HasEnded g a.engine (moment state a.logs.now) z.logs.now end = rw (sym only.engine, sym only.logs) (ended told state stands) in
     let on : IsRunFrom g (WasSettled g first start) (streams script (s.left b.script.now) before (k.given a.sink.now)) start end z.logs.now =
         ended_script g first start script (s.left a.script.now) (s.left b.script.now) before (k.given a.sink.now) a.reader a.engine (moment state a.logs.now) z.logs.now end running (read script running.lines running.given) left in
@@ -134,8 +134,8 @@ line_done {S} {K} {L} s k g a b c z request r result read only made rest written
         elim (written.answered reply (ap (λ (x : Round). x.reply) is)) [
           inl w ↦ subst (λ (o : Option RunEnd). IsStep g first start (told_by s k script before z) z o) (sym (w.1 ∙ ap (λ (o : Option Stop). end_of (Some reply) o) unstopped))
               (so.after, goes_on g first start script (s.left a.script.now) (s.left z.script.now) before (k.given a.sink.now) (k.given z.sink.now) a.reader z.reader a.engine z.engine m (moment so.after z.logs.now) request reply running next moved (rw (sym same_sink) w.0))
-          | inr w ↦ subst (λ (o : Option RunEnd). IsStep g first start (told_by s k script before z) z o) (sym (w.1.1 ∙ ap (λ (o : Option Stop). Some (AtSink o)) unstopped))
-              (failed_put g first start script (s.left a.script.now) (s.left z.script.now) before (k.given a.sink.now) (k.given z.sink.now) a.reader z.reader a.engine z.engine m (moment so.after z.logs.now) request reply w.0 running next moved (rw (sym same_sink) w.1.0))
+          | inr w ↦ subst (λ (o : Option RunEnd). IsStep g first start (told_by s k script before z) z o) (sym (w.2 ∙ ap (λ (o : Option Stop). Some (AtSink o)) unstopped))
+              (failed_put g first start script (s.left a.script.now) (s.left z.script.now) before (k.given a.sink.now) (k.given z.sink.now) a.reader z.reader a.engine z.engine m (moment so.after z.logs.now) request reply w.0 running next moved (rw (sym same_sink) w.1))
         ]
     by (Err failed) steps is =
         let stopped : r.stop ≡ Some Logs = ap (λ (x : Round). x.stop) is in

@@ -1,4 +1,4 @@
-use Rattle.std.proofs.Common.{refl}
+use Rattle.std.proofs.Common.{◌∙◌, refl}
 use Rattle.tt_engine.specs.RepresentsLaws.{forced_now, forced_settled}
 use Rattle.tt_run.specs.Run.{moment}
 use Rattle.tt_run.proofs.FaultLemmas.{none_failed, not_called, rose_behind}
@@ -31,7 +31,10 @@ returns-in-Some-clause-ran g c = λ told start stands.
 pub lines-preserved : goal.lines-preserved
 lines-preserved g c = record {
   ready = c.in-None.ensures.open;
-  references = c.lines.invariant.references;
+  references =
+      let (script, sink, logs) = c.lines.invariant.references in
+      let (script_on, sink_on, logs_on) = c.in-None.ensures.references in
+      (script_on ∙ script, sink_on ∙ sink, logs_on ∙ logs);
   scripts = rose_behind _ ⊥ _ _ _ c.lines.invariant.scripts (none_failed _ _ _ _ (λ named. named) c.in-None.ensures.script_fault);
   sinks = rose_behind _ ⊥ _ _ _ c.lines.invariant.sinks (none_failed _ _ _ _ (λ named. named) c.in-None.ensures.sink_fault);
   volumes = rose_behind _ ⊥ _ _ _ c.lines.invariant.volumes (none_failed _ _ _ _ (λ named. named) c.in-None.ensures.logs_fault);
