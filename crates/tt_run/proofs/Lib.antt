@@ -3,3 +3,4 @@ pub mod LineLemmas
 pub mod OpenLemmas
 pub mod RunLemmas
 pub mod SettingsLemmas
+pub mod TopLemmas
