@@ -159,3 +159,22 @@ line_ready k g b c z request r result made written put = by result (round_ends k
     by None (sinks unstopped is) = let bad : ⊥ = cc in absurd bad
     by None (stops stopped is) = let bad : ⊥ = cc in absurd bad
     by (Some end) ends = tt
+
+-- ---- counts of faults
+
+-- of the script, over a line that was read
+pub line_script : {S K L : Type 0} (s : SourceGhosts S) (a b c z : ScriptRun S K L) (request : Request) (next : Result NextLine Failed) (r : Round) (result : Option RunEnd) → next ≡ Ok (Asks request)
+    → HasCause s.exact (s.faults a.script.now) (s.faults b.script.now) next → OnlyLogs b c → OnlySink c z → RoundEnds r result → SourceRose s (EndsWith ScriptFault result) a.script.now z.script.now
+line_script s a b c z request next r result is cause rest put ends =
+    let answered : HasCause s.exact (s.faults a.script.now) (s.faults b.script.now) (Ok (Asks request)) = subst (λ (n : Result NextLine Failed). HasCause s.exact (s.faults a.script.now) (s.faults b.script.now) n) is cause in
+    let rose : RoseWhere s.exact (EndsWith ScriptFault result) (s.faults a.script.now) (s.faults b.script.now) =
+        record { later = answered.later; failed = λ named. absurd (round_no_script r result ends named); stays = inr answered.stays } in
+    rw (put.script, rest.script) rose
+
+-- of the log files, over a line
+pub line_logs : {S K L : Type 0} (g : Ghosts L) (a b c z : ScriptRun S K L) (r : Round) (result : Option RunEnd) → OnlyScript a b → VolumeRose g (r.stop ≡ Some Logs) b.logs.now c.logs.now → OnlySink c z → RoundEnds r result
+    → VolumeRose g (EndsWith (VolumeFault Logs) result) a.logs.now z.logs.now
+line_logs g a b c z r result only fault put ends =
+    let rose : RoseWhere g.exact (EndsWith (VolumeFault Logs) result) (g.faults b.logs.now) (g.faults c.logs.now) =
+        rose_if g.exact (r.stop ≡ Some Logs) (EndsWith (VolumeFault Logs) result) (g.faults b.logs.now) (g.faults c.logs.now) (round_stop_named r result ends) (round_named_stop r result ends) fault in
+    rw (sym only.logs, put.logs) rose

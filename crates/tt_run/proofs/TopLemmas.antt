@@ -15,7 +15,20 @@ use Rattle.tt_run.specs.declared.devices.Devices.{Devices}
 use Rattle.tt_run.specs.declared.status.Status.{Status}
 use Rattle.tt_run.specs.declared.status.Status.TheVariants.{AttributesFault, Done, Exists, LogOut, NoMemory, SinkFault, Usage, VolumeFault}
 use Rattle.tt_run.specs.declared.words.Action.TheVariants.{Create}
-use Rattle.tt_run.proofs.OpenLemmas.{none_left}
+use Rattle.tt_run.specs.declared.run_end.RunEnd.{RunEnd}
+use Rattle.tt_run.specs.declared.script_run.ScriptRun.{ScriptRun}
+use Rattle.tt_engine.specs.declared.engine.Engine.{Engine}
+use Rattle.tt_engine.specs.Engine.{Represents}
+use Rattle.tt_engine.specs.OpeningLaws.{settled_reads}
+use Rattle.tt_engine.specs.Prefixes.{IsSinceOpening, LogsAreSettled}
+use Rattle.tt_engine.specs.Starts.{Opens, begun_over, database}
+use Rattle.tt_journal.specs.LogTrail.{ChangesFrom}
+use Rattle.tt_run.specs.Openings.{IsOpened}
+use Rattle.tt_run.specs.Run.{IsRun, Streams, moment, streams}
+use Rattle.tt_run.specs.RunEnd.{status_of}
+use Rattle.tt_run.specs.ScriptRun.{DoesLines, IsRunEnd, WasSettled}
+use Rattle.tt_run.specs.TopCall.{told_between}
+use Rattle.tt_run.proofs.OpenLemmas.{begun_found, none_left, opened_lines, run_over, same_found}
 use Rattle.tt_run.proofs.SettingsLemmas.{EndedSo, ended_complete, ended_in_attributes, ended_not_usage, ended_text}
 
 same_files : (now : Files) (may : Outcomes) → Keeps now now may may
@@ -110,3 +123,34 @@ create_not_before SinkFault ends before = before
 create_not_before (VolumeFault stop) ends before = before
 create_not_before Exists ends before = before
 create_not_before _ ends before = ends
+
+-- ---- the lines of a run
+
+-- a run whose lines were begun
+pub lines_ran : {S A K L C B : Type 0} (s : SourceGhosts S) (k : SinkGhosts K) (g : Ghosts L) (settings : Settings) (old new : Devices S A K L C B) (engine : Engine) (opened : L) (first last : ScriptRun S K L) (end : RunEnd) (status : Status)
+    → g.told → Opens g settings old.logs opened (Ok engine) → ((found : Opened) → IsSinceOpening (begun_over settings (g.now old.logs) found))
+    → first.script.now ≡ old.script → first.sink.now ≡ old.sink → first.logs.now ≡ opened → first.engine ≡ engine → DoesLines s k g first last end → IsRunEnd end
+    → new.script ≡ last.script.now → new.sink ≡ last.sink.now → new.logs ≡ last.logs.now → status ≡ status_of end → RunsWith s k g settings old new status
+lines_ran {L = L} s k g settings old new engine opened first last end status told opens since script sink logs same_engine does ends new_script new_sink new_logs is =
+    let started = opens.started in
+    let now_old = g.now old.logs in
+    let may_old = g.may old.logs in
+    let start = begun_over settings now_old started.found in
+    let stands : Represents first.engine (g.now first.logs.now) start = rw (same_engine, logs) (started.stands) in
+    let ran = does told start stands in
+    let told_by_run : Streams = streams (s.left first.script.now) (s.left last.script.now) (k.given first.sink.now) (k.given last.sink.now) in
+    let run : IsRun g (LogsAreSettled now_old may_old) told_by_run start end old.logs last.logs.now =
+        run_over g (WasSettled g first.engine (moment start first.logs.now)) (LogsAreSettled now_old may_old) told_by_run start end old.logs first.logs.now last.logs.now (since started.found)
+        (λ settled. rw (same_engine, logs) (opens.kept (settled_reads now_old may_old settled)))
+        (λ still. rw logs (opens.still started.found started.is still))
+        (subst (λ (f : Opened). ChangesFrom f.end.file now_old (g.now first.logs.now) may_old (g.may first.logs.now)) (sym (begun_found settings now_old started.found)) (rw logs (opens.others started.found started.is)))
+        ran in
+    let run_new : IsRun g (LogsAreSettled now_old may_old) (told_between s k old new) start end old.logs new.logs = rw (sym script, sym sink, new_script, new_sink, new_logs) run in
+    record {
+      opened = subst (λ (t : Status). IsOpened settings (database now_old) t) (sym is) (opened_lines settings now_old started.found end started.is started.place ends);
+      ran = λ found found_is. inr (record {
+          end = end;
+          is = is;
+          run = subst (λ (f : Opened). IsRun g (LogsAreSettled now_old may_old) (told_between s k old new) (begun_over settings now_old f) end old.logs new.logs) (same_found now_old started.found found started.is found_is) run_new;
+        });
+    }

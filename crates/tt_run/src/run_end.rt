@@ -31,13 +31,13 @@ pub(crate) enum RunEnd {
 
 impl RunEnd {
     /// The status of a run that ended so. Where a line was stopped and the sink failed at its reply, it names the sink.
-    pub(crate) fn status(&self) -> Status
-        ensures { result ≡ status_of self.now }
+    pub(crate) fn status(self) -> Status
+        ensures { result ≡ status_of self }
     {
         match self {
             RunEnd::AtEnd { stop: None } => Status::Done,
-            RunEnd::AtEnd { stop: Some(stop) } => Status::VolumeFault(*stop),
-            RunEnd::AtLine { stop, .. } => Status::VolumeFault(*stop),
+            RunEnd::AtEnd { stop: Some(stop) } => Status::VolumeFault(stop),
+            RunEnd::AtLine { stop, .. } => Status::VolumeFault(stop),
             RunEnd::AtSink { .. } => Status::SinkFault,
             RunEnd::AtScript => Status::ScriptFault,
             RunEnd::ScriptOver => Status::ScriptTooLong,
