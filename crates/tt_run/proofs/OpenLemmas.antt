@@ -35,8 +35,8 @@ use Rattle.tt_run.specs.declared.status.Status.TheVariants.{Done, ScriptFault, S
 use Rattle.tt_run.specs.Openings.{HasNewDatabase, IsBeforeLines, IsCreated, IsDoneOrWanting, IsOpened, IsScriptRunEnd, LeavesNoOther, LeavesNoLog, mark_place, new_database}
 use Rattle.tt_run.specs.Run.{EndsIn, HasDone, IsRun, IsRunFrom, Streams, moment}
 use Rattle.tt_run.specs.RunEnd.{status_of}
-use Rattle.tt_run.specs.ScriptRun.{IsRunEnd}
-use Rattle.tt_run.specs.TopCall.{EndedEarly, RunsWith, told_between}
+use Rattle.tt_run.specs.ScriptRun.{IsRunEnd, told_between}
+use Rattle.tt_run.specs.TopCall.{EndedEarly, RunsWith}
 use Rattle.tt_run.proofs.RunLemmas.{Outcomes, run_changes, run_still, run_under}
 use Rattle.tt_disk.specs.declared.volume.Volume.{Ghosts}
 

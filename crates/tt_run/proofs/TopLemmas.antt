@@ -7,27 +7,24 @@ use Rattle.tt_flow.specs.declared.stream.Source.{Ghosts as SourceGhosts}
 use Rattle.tt_value.specs.declared.reply.Stop.TheVariants.{Logs}
 use Rattle.tt_model.specs.Opened.{Opened}
 use Rattle.tt_set.specs.declared.settings.Settings.{Settings}
-use Rattle.tt_run.specs.Attributes.{IsFrom, IsSaid}
+use Rattle.tt_run.specs.Attributes.{IsBadSo, IsFrom}
 use Rattle.tt_run.specs.Devices.{DoesNothing, SourceFailed}
 use Rattle.tt_run.specs.Openings.{IsBeforeLines, IsBeforeOpening, IsCreateEnd, IsCreated, IsDoneOrWanting}
 use Rattle.tt_run.specs.TopCall.{Asks, Creates, EndedEarly, FailsAtMark, KeepsRefused, Runs, RunsWith, SaysOnly, Untouched}
 use Rattle.tt_run.specs.declared.devices.Devices.{Devices}
 use Rattle.tt_run.specs.declared.status.Status.{Status}
-use Rattle.tt_run.specs.declared.status.Status.TheVariants.{AttributesFault, Done, Exists, LogOut, NoMemory, SinkFault, Usage, VolumeFault}
+use Rattle.tt_run.specs.declared.status.Status.TheVariants.{AttributesFault, BadAttribute, Done, Exists, LogOut, NoMemory, SinkFault, Usage, VolumeFault}
 use Rattle.tt_run.specs.declared.words.Action.TheVariants.{Create}
 use Rattle.tt_run.specs.declared.run_end.RunEnd.{RunEnd}
-use Rattle.tt_run.specs.declared.script_run.ScriptRun.{ScriptRun}
 use Rattle.tt_engine.specs.declared.engine.Engine.{Engine}
-use Rattle.tt_engine.specs.Engine.{Represents}
 use Rattle.tt_engine.specs.OpeningLaws.{settled_reads}
 use Rattle.tt_engine.specs.Prefixes.{IsSinceOpening, LogsAreSettled}
 use Rattle.tt_engine.specs.Starts.{Opens, begun_over, database}
 use Rattle.tt_journal.specs.LogTrail.{ChangesFrom}
-use Rattle.tt_run.specs.Openings.{IsOpened}
-use Rattle.tt_run.specs.Run.{IsRun, Streams, moment, streams}
+use Rattle.tt_run.specs.Openings.{IsOpened, IsScriptRunEnd}
+use Rattle.tt_run.specs.Run.{IsRun, moment}
 use Rattle.tt_run.specs.RunEnd.{status_of}
-use Rattle.tt_run.specs.ScriptRun.{DoesLines, IsRunEnd, WasSettled}
-use Rattle.tt_run.specs.TopCall.{told_between}
+use Rattle.tt_run.specs.ScriptRun.{DoesScript, IsRunEnd, WasSettled, told_between}
 use Rattle.tt_run.proofs.OpenLemmas.{begun_found, none_left, opened_lines, run_over, same_found}
 use Rattle.tt_run.proofs.SettingsLemmas.{EndedSo, ended_complete, ended_in_attributes, ended_not_usage, ended_text}
 
@@ -127,30 +124,38 @@ create_not_before _ ends before = ends
 -- ---- the lines of a run
 
 -- a run whose lines were begun
-pub lines_ran : {S A K L C B : Type 0} (s : SourceGhosts S) (k : SinkGhosts K) (g : Ghosts L) (settings : Settings) (old new : Devices S A K L C B) (engine : Engine) (opened : L) (first last : ScriptRun S K L) (end : RunEnd) (status : Status)
+pub lines_ran : {S A K L C B : Type 0} (s : SourceGhosts S) (k : SinkGhosts K) (g : Ghosts L) (settings : Settings) (old new : Devices S A K L C B) (engine : Engine) (opened : L) (end : RunEnd) (status : Status)
     → g.told → Opens g settings old.logs opened (Ok engine) → ((found : Opened) → IsSinceOpening (begun_over settings (g.now old.logs) found))
-    → first.script.now ≡ old.script → first.sink.now ≡ old.sink → first.logs.now ≡ opened → first.engine ≡ engine → DoesLines s k g first last end → IsRunEnd end
-    → new.script ≡ last.script.now → new.sink ≡ last.sink.now → new.logs ≡ last.logs.now → status ≡ status_of end → RunsWith s k g settings old new status
-lines_ran {L = L} s k g settings old new engine opened first last end status told opens since script sink logs same_engine does ends new_script new_sink new_logs is =
+    → DoesScript s k g engine (record old { logs = opened }) new end → IsRunEnd end → status ≡ status_of end → RunsWith s k g settings old new status
+lines_ran s k g settings old new engine opened end status told opens since does ends is =
     let started = opens.started in
     let now_old = g.now old.logs in
     let may_old = g.may old.logs in
     let start = begun_over settings now_old started.found in
-    let stands : Represents first.engine (g.now first.logs.now) start = rw (same_engine, logs) (started.stands) in
-    let ran = does told start stands in
-    let told_by_run : Streams = streams (s.left first.script.now) (s.left last.script.now) (k.given first.sink.now) (k.given last.sink.now) in
-    let run : IsRun g (LogsAreSettled now_old may_old) told_by_run start end old.logs last.logs.now =
-        run_over g (WasSettled g first.engine (moment start first.logs.now)) (LogsAreSettled now_old may_old) told_by_run start end old.logs first.logs.now last.logs.now (since started.found)
-        (λ settled. rw (same_engine, logs) (opens.kept (settled_reads now_old may_old settled)))
-        (λ still. rw logs (opens.still started.found started.is still))
-        (subst (λ (f : Opened). ChangesFrom f.end.file now_old (g.now first.logs.now) may_old (g.may first.logs.now)) (sym (begun_found settings now_old started.found)) (rw logs (opens.others started.found started.is)))
-        ran in
-    let run_new : IsRun g (LogsAreSettled now_old may_old) (told_between s k old new) start end old.logs new.logs = rw (sym script, sym sink, new_script, new_sink, new_logs) run in
+    let run : IsRun g (LogsAreSettled now_old may_old) (told_between s k old new) start end old.logs new.logs =
+        run_over g (WasSettled g engine (moment start opened)) (LogsAreSettled now_old may_old) (told_between s k old new) start end old.logs opened new.logs (since started.found)
+        (λ settled. opens.kept (settled_reads now_old may_old settled)) (λ still. opens.still started.found started.is still)
+        (subst (λ (f : Opened). ChangesFrom f.end.file now_old (g.now opened) may_old (g.may opened)) (sym (begun_found settings now_old started.found)) (opens.others started.found started.is))
+        (does told start started.stands) in
     record {
       opened = subst (λ (t : Status). IsOpened settings (database now_old) t) (sym is) (opened_lines settings now_old started.found end started.is started.place ends);
       ran = λ found found_is. inr (record {
           end = end;
           is = is;
-          run = subst (λ (f : Opened). IsRun g (LogsAreSettled now_old may_old) (told_between s k old new) (begun_over settings now_old f) end old.logs new.logs) (same_found now_old started.found found started.is found_is) run_new;
+          run = subst (λ (f : Opened). IsRun g (LogsAreSettled now_old may_old) (told_between s k old new) (begun_over settings now_old f) end old.logs new.logs) (same_found now_old started.found found started.is found_is) run;
         });
     }
+
+-- ---- attributes that aren't right
+
+pub read_bad : (text : List ℕ) (status : Status) → IsFrom text (Err status) → IsBadSo text status
+read_bad text (BadAttribute name) from = from
+read_bad text _ from = tt
+
+pub create_not_bad : (text : List ℕ) (status : Status) → IsCreateEnd status → IsBadSo text status
+create_not_bad text (BadAttribute name) ends = absurd ends
+create_not_bad text _ ends = tt
+
+pub run_not_bad : (text : List ℕ) (status : Status) → IsScriptRunEnd status → IsBadSo text status
+run_not_bad text (BadAttribute name) ends = absurd ends
+run_not_bad text _ ends = tt

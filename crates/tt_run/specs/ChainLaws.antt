@@ -1,5 +1,5 @@
 -- A run, a crash, and the next run: each leaves what the next one asks for.
-use Rattle.std.proofs.Common.{◌≡◌, ◌⊎◌, inl, inr, ℕ, List, Option, Some, None, Result, Ok, Err, String, refl, sym, ap, ◌∙◌, cc, tt}
+use Rattle.std.proofs.Common.{◌≡◌, ◌⊎◌, inl, inr, ℕ, List, Option, Some, None, Result, Ok, Err, String, refl, sym, ap, ◌∙◌}
 use Rattle.tt_disk.specs.Volume.{IsSettled, Keeps, Outcomes, Files}
 use Rattle.tt_disk.specs.declared.volume.Name.{Name}
 use Rattle.tt_disk.specs.declared.volume.Volume.{Ghosts}
@@ -19,7 +19,8 @@ use Rattle.tt_run.specs.Devices.{DoesNothing}
 use Rattle.tt_run.specs.Openings.{HasNoPlace, IsBeforeLines, IsCreated, new_database}
 use Rattle.tt_run.specs.Run.{EndsIn, IsRun, Streams}
 use Rattle.tt_run.specs.RunEnd.{status_of, stop_of}
-use Rattle.tt_run.specs.TopCall.{DidLines, EndedEarly, Runs, RunsWith, Untouched, told_between}
+use Rattle.tt_run.specs.ScriptRun.{told_between}
+use Rattle.tt_run.specs.TopCall.{DidLines, EndedEarly, Runs, RunsWith, Untouched}
 use Rattle.tt_run.specs.declared.devices.Devices.{Devices}
 use Rattle.tt_run.specs.declared.run_end.RunEnd.{RunEnd}
 use Rattle.tt_run.specs.declared.run_end.RunEnd.TheVariants.{AtEnd, AtLine, AtSink, AtScript, ScriptOver, NoPlaceAtEnd}
@@ -114,19 +115,19 @@ before_lines attributes ScriptTooLong ended = absurd ended
 -- Where the status names no volume, none stopped the run.
 not_stopped : (script left : Option (List ℕ)) (lines : List (Option (List ℕ))) (s last : State) (end : RunEnd) → EndsIn script left lines s last end
     → (status_of end ≡ VolumeFault Logs → ⊥) → stop_of end ≡ None
-not_stopped script left lines s last (AtEnd None) ends no = refl
-not_stopped script left lines s last (AtEnd (Some Logs)) ends no = absurd (no refl)
-not_stopped script left lines s last (AtEnd (Some Images)) ends no = absurd ends
-not_stopped script left lines s last (AtEnd (Some Backups)) ends no = absurd ends
-not_stopped script left lines s last (AtLine None Logs) ends no = absurd (no refl)
-not_stopped script left lines s last (AtLine None Images) ends no = absurd ends
-not_stopped script left lines s last (AtLine None Backups) ends no = absurd ends
-not_stopped script left lines s last (AtLine (Some reply) stop) ends no = absurd ends
-not_stopped script left lines s last (AtSink None) ends no = refl
-not_stopped script left lines s last (AtSink (Some stop)) ends no = absurd ends
-not_stopped script left lines s last AtScript ends no = refl
-not_stopped script left lines s last ScriptOver ends no = refl
-not_stopped script left lines s last NoPlaceAtEnd ends no = refl
+not_stopped script left lines s last (AtEnd None) ends unfaulted = refl
+not_stopped script left lines s last (AtEnd (Some Logs)) ends unfaulted = absurd (unfaulted refl)
+not_stopped script left lines s last (AtEnd (Some Images)) ends unfaulted = absurd ends
+not_stopped script left lines s last (AtEnd (Some Backups)) ends unfaulted = absurd ends
+not_stopped script left lines s last (AtLine None Logs) ends unfaulted = absurd (unfaulted refl)
+not_stopped script left lines s last (AtLine None Images) ends unfaulted = absurd ends
+not_stopped script left lines s last (AtLine None Backups) ends unfaulted = absurd ends
+not_stopped script left lines s last (AtLine (Some reply) stop) ends unfaulted = absurd ends
+not_stopped script left lines s last (AtSink None) ends unfaulted = refl
+not_stopped script left lines s last (AtSink (Some stop)) ends unfaulted = absurd ends
+not_stopped script left lines s last AtScript ends unfaulted = refl
+not_stopped script left lines s last ScriptOver ends unfaulted = refl
+not_stopped script left lines s last NoPlaceAtEnd ends unfaulted = refl
 
 -- Where the status names the log files, a volume stopped the run.
 stopped : (script left : Option (List ℕ)) (lines : List (Option (List ℕ))) (s last : State) (end : RunEnd) → EndsIn script left lines s last end
@@ -151,27 +152,27 @@ module _ {S A K L C B Z : Type 0} (s : SourceGhosts S) (a : SourceGhosts A) (k :
   -- A run that ended before its first line without a fault of the log files changed none of them.
   early_kept : (status : Status) (settings : Settings) (found : Opened) → AreSettings (a.left old.attributes) settings → database (g.now old.logs) ≡ Ok found → Untouched a g words old new status
       → (status ≡ VolumeFault Logs → ⊥) → EndedEarly g settings found old new status → DoesNothing g old new
-  early_kept NoMemory settings found gives opened rest no early = rest.before_lines tt
-  early_kept LogOut settings found gives opened rest no early =
+  early_kept NoMemory settings found gives opened rest unfaulted early = rest.before_lines tt
+  early_kept LogOut settings found gives opened rest unfaulted early =
       rest.no_place refl (record { settings = settings; found = found; gives = gives; opens = opened; none = early })
-  early_kept (VolumeFault Logs) settings found gives opened rest no early = absurd (no refl)
-  early_kept (VolumeFault Images) settings found gives opened rest no early = absurd early
-  early_kept (VolumeFault Backups) settings found gives opened rest no early = absurd early
-  early_kept Done settings found gives opened rest no early = absurd early
-  early_kept ScriptFault settings found gives opened rest no early = absurd early
-  early_kept AttributesFault settings found gives opened rest no early = absurd early
-  early_kept SinkFault settings found gives opened rest no early = absurd early
-  early_kept Usage settings found gives opened rest no early = absurd early
-  early_kept (Damaged damage) settings found gives opened rest no early = absurd early
-  early_kept Exists settings found gives opened rest no early = absurd early
-  early_kept NoDatabase settings found gives opened rest no early = absurd early
-  early_kept (BadAttribute name) settings found gives opened rest no early = absurd early
-  early_kept ScriptTooLong settings found gives opened rest no early = absurd early
+  early_kept (VolumeFault Logs) settings found gives opened rest unfaulted early = absurd (unfaulted refl)
+  early_kept (VolumeFault Images) settings found gives opened rest unfaulted early = absurd early
+  early_kept (VolumeFault Backups) settings found gives opened rest unfaulted early = absurd early
+  early_kept Done settings found gives opened rest unfaulted early = absurd early
+  early_kept ScriptFault settings found gives opened rest unfaulted early = absurd early
+  early_kept AttributesFault settings found gives opened rest unfaulted early = absurd early
+  early_kept SinkFault settings found gives opened rest unfaulted early = absurd early
+  early_kept Usage settings found gives opened rest unfaulted early = absurd early
+  early_kept (Damaged damage) settings found gives opened rest unfaulted early = absurd early
+  early_kept Exists settings found gives opened rest unfaulted early = absurd early
+  early_kept NoDatabase settings found gives opened rest unfaulted early = absurd early
+  early_kept (BadAttribute name) settings found gives opened rest unfaulted early = absurd early
+  early_kept ScriptTooLong settings found gives opened rest unfaulted early = absurd early
 
   lines_done : (status : Status) (settings : Settings) (found : Opened) → (status ≡ VolumeFault Logs → ⊥) → DidLines g (settings, found) (told_between s k old new) old.logs new.logs status → MayRunOn g new.logs
-  lines_done status settings found no did =
+  lines_done status settings found unfaulted did =
       let lines = did.run.lines in
-      let none : stop_of did.end ≡ None = not_stopped _ _ lines.done.lines lines.behind.state lines.last did.end lines.done.ends (λ e. no (did.is ∙ e)) in
+      let none : stop_of did.end ≡ None = not_stopped _ _ lines.done.lines lines.behind.state lines.last did.end lines.done.ends (λ e. unfaulted (did.is ∙ e)) in
       let holds = lines.leaves.holds none in
       record {
         found = holds.opens.found;
@@ -181,13 +182,13 @@ module _ {S A K L C B Z : Type 0} (s : SourceGhosts S) (a : SourceGhosts A) (k :
 
   -- After a run whose status names no fault of the log files the next may be begun, whatever else failed.
   pub after_run : (status : Status) → Untouched a g words old new status → Runs s a k g old new status → (status ≡ VolumeFault Logs → ⊥) → MayRunOn g new.logs
-  after_run status rest did no = elim (did.ran told) [
+  after_run status rest did unfaulted = elim (did.ran told) [
     inl ended ↦ kept (rest.before_lines (before_lines (a.left old.attributes) status ended))
     | inr with_settings ↦
       let settings = with_settings.0 in
       elim ((with_settings.2).ran runs.found runs.is) [
-        inl early ↦ kept (early_kept status settings runs.found (with_settings.1) runs.is rest no early)
-        | inr lines ↦ lines_done status settings runs.found no lines
+        inl early ↦ kept (early_kept status settings runs.found (with_settings.1) runs.is rest unfaulted early)
+        | inr lines ↦ lines_done status settings runs.found unfaulted lines
       ]
   ]
 

@@ -16,6 +16,7 @@ use Rattle.tt_engine.specs.declared.engine.Engine.{Engine}
 use Rattle.tt_engine.specs.declared.request.Request.{Request}
 use Rattle.tt_engine.specs.Engine.{EndCallsLog, Represents, Steps}
 use Rattle.tt_engine.specs.Request.{script_ended}
+use Rattle.tt_run.specs.declared.devices.Devices.{Devices}
 use Rattle.tt_run.specs.declared.run_end.Round.{Round}
 use Rattle.tt_run.specs.declared.run_end.RunEnd.{RunEnd}
 use Rattle.tt_run.specs.declared.run_end.RunEnd.TheVariants.{AtEnd, AtLine, AtSink, AtScript, ScriptOver}
@@ -105,6 +106,16 @@ abbrev pub DoesLines : {S K L : Type 0} → SourceGhosts S → SinkGhosts K → 
 DoesLines s k g old new end =
     g.told → (state : State) → Represents old.engine (g.now old.logs.now) state
     → IsRunFrom g (WasSettled g old.engine (moment state old.logs.now)) (told_by s k (s.left old.script.now) (k.given old.sink.now) new) (moment state old.logs.now) end new.logs.now
+
+-- what the streams of a run tell
+abbrev pub told_between : {S A K L C B : Type 0} → SourceGhosts S → SinkGhosts K → Devices S A K L C B → Devices S A K L C B → Streams
+told_between s k old new = streams (s.left old.script) (s.left new.script) (k.given old.sink) (k.given new.sink)
+
+-- The script was done on an open database: it is a run from each state that the engine stands for.
+abbrev pub DoesScript : {S A K L C B : Type 0} → SourceGhosts S → SinkGhosts K → Ghosts L → Engine → Devices S A K L C B → Devices S A K L C B → RunEnd → Type 0
+DoesScript s k g engine old new end =
+    g.told → (state : State) → Represents engine (g.now old.logs) state
+    → IsRunFrom g (WasSettled g engine (moment state old.logs)) (told_between s k old new) (moment state old.logs) end new.logs
 
 -- ---- how a run may end
 

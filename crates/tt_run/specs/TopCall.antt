@@ -18,8 +18,9 @@ use Rattle.tt_engine.specs.Starts.{begun_over, database}
 use Rattle.tt_run.specs.Attributes.{EndedInAttributes, ForSettings, IsBadSo, IsRefusedFor, IsSaid}
 use Rattle.tt_run.specs.Devices.{DoesNothing, SinkFailed, SourceFailed, VolumeFailed}
 use Rattle.tt_run.specs.Openings.{HasNoPlace, IsBeforeLines, IsBeforeOpening, IsCreated, IsCreateText, IsDoneOrWanting, IsOpened, LeavesNoLog, LeavesNoOther, mark_place}
-use Rattle.tt_run.specs.Run.{IsRun, Streams, streams}
+use Rattle.tt_run.specs.Run.{IsRun, Streams}
 use Rattle.tt_run.specs.RunEnd.{status_of}
+use Rattle.tt_run.specs.ScriptRun.{told_between}
 use Rattle.tt_run.specs.Words.{form_of}
 use Rattle.tt_run.specs.declared.devices.Devices.{Devices}
 use Rattle.tt_run.specs.declared.run_end.RunEnd.{RunEnd}
@@ -106,10 +107,6 @@ pub record Creates {S A K L C B : Type 0} (a : SourceGhosts A) (k : SinkGhosts K
       → ¬ (SourceFailed a old.attributes new.attributes) → ¬ (SinkFailed k old.sink new.sink) → ¬ (VolumeFailed g old.logs new.logs) → IsDoneOrWanting status
 
 -- ---- `run DIR`
-
--- what the streams of a run tell
-abbrev pub told_between : {S A K L C B : Type 0} → SourceGhosts S → SinkGhosts K → Devices S A K L C B → Devices S A K L C B → Streams
-told_between s k old new = streams (s.left old.script) (s.left new.script) (k.given old.sink) (k.given new.sink)
 
 -- over files that can't be opened nothing is read of the script or written, and no log file changes
 abbrev pub KeepsRefused : {S A K L C B : Type 0} → Ghosts L → Devices S A K L C B → Devices S A K L C B → Type 0

@@ -4,10 +4,16 @@ ghost use Rattle.std.specs.Prelude.{◌≡◌, ◌<◌, Result, Option, Some, No
 ghost use Rattle.tt_disk.specs.Faults.{HasCause};
 ghost use Rattle.tt_flow.specs.Lines.{bytes_to_come};
 ghost use Rattle.tt_engine.specs.Request.{IsReplyInUse};
+ghost use Rattle.tt_log.specs.Calls.{IsOpenOn};
+ghost use Rattle.tt_run.specs.Devices.{KeepsRest, SinkFaults, SourceFaults, VolumeFaults};
+ghost use Rattle.tt_run.specs.RunEnd.{status_of};
+ghost use Rattle.tt_run.specs.ScriptRun.{DoesScript, IsRunEnd};
 
+use crate::devices::Devices;
 use crate::reply::reply_text;
 use crate::request::read_request;
 use crate::run_end::{Round, RunEnd};
+use crate::status::Status;
 use std::alloc::Global;
 use tt_disk::{Failed, Volume};
 use tt_engine::{Engine, Request};
@@ -24,9 +30,36 @@ pub(crate) enum NextLine {
     ScriptTooLong,
 }
 
-/// A script that is being done on an open database.
-#[derive(Drop)]
-pub(crate) struct ScriptRun<'a, S, K, L> {
+/// Does the lines of a script on an open database, up to the first that fails, and forces the log at the end.
+pub(crate) fn do_script<S: Source, A, K: Sink, L: Volume, C, B>(
+    alloc: Global,
+    engine: Engine,
+    devices: &mut Devices<S, A, K, L, C, B>,
+) -> RunEnd
+    requires open { IsOpenOn L.Volume engine.log devices.old.logs }
+    ensures ran { DoesScript S.Source K.Sink L.Volume engine devices.old devices.new result }
+    ensures ends { IsRunEnd result }
+    ensures rest { KeepsRest devices.old devices.new }
+    ensures script_fault { SourceFaults S.Source Status.ScriptFault devices.old.script devices.new.script (status_of result) }
+    ensures sink_fault { SinkFaults K.Sink devices.old.sink devices.new.sink (status_of result) }
+    ensures logs_fault { VolumeFaults L.Volume Stop.Logs devices.old.logs devices.new.logs (status_of result) }
+{
+    let mut run = ScriptRun {
+        alloc,
+        engine,
+        reader: LineReader::new(),
+        line: LineBuf::new(),
+        script: &mut devices.script,
+        sink: &mut devices.sink,
+        logs: &mut devices.logs,
+    };
+    let end = run.do_lines();
+    let ScriptRun { .. } = run;
+    end
+}
+
+// A script that is being done on an open database.
+struct ScriptRun<'a, S, K, L> {
     alloc: Global,
     engine: Engine,
     reader: LineReader,
@@ -43,33 +76,8 @@ impl<'a, S: Source, K: Sink, L: Volume> ScriptRun<'a, S, K, L> {
     ghost use Rattle.tt_run.specs.declared.status.Status.TheVariants.{ScriptFault, SinkFault, VolumeFault};
     ghost use Rattle.tt_value.specs.declared.reply.Stop.TheVariants.{Logs};
 
-    /// A run of which no line was done yet.
-    pub(crate) fn new(
-        alloc: Global,
-        engine: Engine,
-        script: &'a mut S,
-        sink: &'a mut K,
-        logs: &'a mut L,
-    ) -> ScriptRun<'a, S, K, L>
-        ensures script { (result.script.ghost_name ≡ script.entry.ghost_name) × (result.script.now ≡ script.old) }
-        ensures sink { (result.sink.ghost_name ≡ sink.entry.ghost_name) × (result.sink.now ≡ sink.old) }
-        ensures logs { (result.logs.ghost_name ≡ logs.entry.ghost_name) × (result.logs.now ≡ logs.old) }
-        ensures engine { result.engine ≡ engine }
-        ensures start { IsAtStart result.reader }
-    {
-        ScriptRun {
-            alloc,
-            engine,
-            reader: LineReader::new(),
-            line: LineBuf::new(),
-            script,
-            sink,
-            logs,
-        }
-    }
-
-    /// Does the lines of the script, up to the first that fails, and forces the log at the end.
-    pub(crate) fn do_lines(&mut self) -> RunEnd
+    // Does the lines of the script, up to the first that fails, and forces the log at the end.
+    fn do_lines(&mut self) -> RunEnd
         requires open { IsReady L.Volume self.old }
         requires start { IsAtStart self.old.reader }
         ensures ran { DoesLines S.Source K.Sink L.Volume self.old self.new result }

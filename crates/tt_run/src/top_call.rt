@@ -8,7 +8,7 @@ ghost use Rattle.tt_run.specs.Words.{form_of};
 
 use crate::attributes::settings_of;
 use crate::devices::Devices;
-use crate::script_run::ScriptRun;
+use crate::script_run::do_script;
 use crate::status::Status;
 use crate::words::{Action, read_words};
 use std::alloc::Global;
@@ -117,16 +117,7 @@ fn run_script<S: Source, A, K: Sink, L: Volume, C, B>(
     ensures logs_fault { VolumeFaults L.Volume Stop.Logs devices.old.logs devices.new.logs result }
 {
     match Engine::start(alloc, settings, &mut devices.logs) {
-        Ok(engine) => {
-            let mut run = ScriptRun::new(
-                alloc,
-                engine,
-                &mut devices.script,
-                &mut devices.sink,
-                &mut devices.logs,
-            );
-            run.do_lines().status()
-        }
+        Ok(engine) => do_script(alloc, engine, devices).status(),
         Err(OpenRefusal::NoDatabase) => Status::NoDatabase,
         Err(OpenRefusal::Damaged(damage)) => Status::Damaged(damage),
         Err(OpenRefusal::LogOut) => Status::LogOut,

@@ -6,12 +6,12 @@ use Rattle.tt_run.specs.Openings.{mark_place}
 use Rattle.tt_run.specs.declared.status.Status.{Status}
 use Rattle.tt_run.proofs.OpenLemmas.{completes}
 use Rattle.tt_run.proofs.SettingsLemmas.{are_settings, ended_bad, ended_so, said_not_bad, same_settings}
-use Rattle.tt_run.proofs.TopLemmas.{EndsInAttributes, ended_creates, ended_runs, ended_untouched, nothing_from, runs_from}
+use Rattle.tt_run.proofs.TopLemmas.{create_not_bad, ended_creates, ended_runs, nothing_from, read_bad, run_not_bad, runs_from}
 use Rattle.tt_run.proofs.top_call.run.Goals as goal
 
 pub returns-in-Err-clause-attributes : goal.returns-in-Err-clause-attributes
 returns-in-Err-clause-attributes g c = record {
-  only = λ text told. search;
+  only = λ text told. read_bad text c.in-Err.status (c.in-Err.ensures.says text told);
   always = λ form text name told says. ended_bad c.in-Err.status name (ended_so c.in-Err.status c.in-Err.ensures.statuses) (c.in-Err.ensures.only text (Err name) told says);
 }
 
@@ -27,13 +27,13 @@ returns-in-Err-clause-runs g c = λ asks.
 
 pub returns-in-Create-clause-attributes : goal.returns-in-Create-clause-attributes
 returns-in-Create-clause-attributes g c = record {
-  only = λ text told. search;
+  only = λ text told. create_not_bad text c.create.result c.create.ensures.statuses;
   always = λ form text name told says. absurd (said_not_bad name c.in-Ok.settings (c.in-Ok.ensures.only text (Err name) told says));
 }
 
 pub returns-in-Run-clause-attributes : goal.returns-in-Run-clause-attributes
 returns-in-Run-clause-attributes g c = record {
-  only = λ text told. search;
+  only = λ text told. run_not_bad text c.run_script.result c.run_script.ensures.statuses;
   always = λ form text name told says. absurd (said_not_bad name c.in-Ok.settings (c.in-Ok.ensures.only text (Err name) told says));
 }
 

@@ -10,17 +10,17 @@ use Rattle.tt_run.proofs.top_call.run_script.Goals as goal
 
 pub returns-in-Ok-clause-ran : goal.returns-in-Ok-clause-ran
 returns-in-Ok-clause-ran g c = λ told.
-    lines_ran g.S.Source g.K.Sink g.L.Volume c.args.settings.now c.args.devices.now _ c.in-Ok.engine c.start.new.logs c.new-run.result c.do_lines.new.self c.do_lines.result c.status.result told (c.in-Ok.ensures.opens told) c.start.ensures.since
-    c.new-run.ensures.script.1 c.new-run.ensures.sink.1 c.new-run.ensures.logs.1 c.new-run.ensures.engine c.do_lines.ensures.ran c.do_lines.ensures.ends _ _ _ c.status.ensures
+    lines_ran g.S.Source g.K.Sink g.L.Volume c.args.settings.now c.args.devices.now c.do_script.new.devices c.in-Ok.engine c.start.new.logs c.do_script.result c.status.result told (c.in-Ok.ensures.opens told) c.start.ensures.since
+    c.do_script.ensures.ran c.do_script.ensures.ends c.status.ensures
 
 pub returns-in-Ok-clause-refused : goal.returns-in-Ok-clause-refused
 returns-in-Ok-clause-refused g c = λ refusal told is. let started = (c.in-Ok.ensures.opens told).started in absurd (found_not_refused (g.L.Volume.now c.args.devices.now.logs) started.found refusal started.is is)
 
 pub returns-in-Ok-clause-unbegun : goal.returns-in-Ok-clause-unbegun
-returns-in-Ok-clause-unbegun g c = λ before. absurd (not_before_lines c.do_lines.result c.do_lines.ensures.ends (rw (sym c.status.ensures) before))
+returns-in-Ok-clause-unbegun g c = λ before. absurd (not_before_lines c.do_script.result c.do_script.ensures.ends (rw (sym c.status.ensures) before))
 
 pub returns-in-Ok-clause-no_place : goal.returns-in-Ok-clause-no_place
-returns-in-Ok-clause-no_place g c = λ out. absurd (not_out c.do_lines.result c.do_lines.ensures.ends (sym c.status.ensures ∙ out))
+returns-in-Ok-clause-no_place g c = λ out. absurd (not_out c.do_script.result c.do_script.ensures.ends (sym c.status.ensures ∙ out))
 
 pub returns-in-Err-LogOut-clause-ran : goal.returns-in-Err-LogOut-clause-ran
 returns-in-Err-LogOut-clause-ran g c = λ told.
