@@ -44,17 +44,24 @@ pub(crate) fn do_script<S: Source, A, K: Sink, L: Volume, C, B>(
     ensures sink_fault { SinkFaults K.Sink devices.old.sink devices.new.sink (status_of result) }
     ensures logs_fault { VolumeFaults L.Volume Stop.Logs devices.old.logs devices.new.logs (status_of result) }
 {
-    let mut run = ScriptRun {
+    let mut run = ScriptRun::new(
         alloc,
         engine,
-        reader: LineReader::new(),
-        line: LineBuf::new(),
-        script: &mut devices.script,
-        sink: &mut devices.sink,
-        logs: &mut devices.logs,
-    };
+        &mut devices.script,
+        &mut devices.sink,
+        &mut devices.logs,
+    );
     let end = run.do_lines();
-    let ScriptRun { .. } = run;
+    // What the borrowed devices came to is known where the run is taken apart, and not where it is dropped.
+    let ScriptRun {
+        alloc: _alloc,
+        engine: _engine,
+        reader: _reader,
+        line: _line,
+        script: _script,
+        sink: _sink,
+        logs: _logs,
+    } = run;
     end
 }
 
@@ -75,6 +82,31 @@ impl<'a, S: Source, K: Sink, L: Volume> ScriptRun<'a, S, K, L> {
     ghost use Rattle.tt_run.specs.ScriptRun.{DoesLine, DoesLines, EndsScript, EndsWith, IsAtStart, IsEnd, IsLine, IsReady, IsRunEnd, KeepsReferences, MakesRound, OnlyLogs, OnlyScript, OnlySink, PutsReply, ReadsNext, WritesRound, round};
     ghost use Rattle.tt_run.specs.declared.status.Status.TheVariants.{ScriptFault, SinkFault, VolumeFault};
     ghost use Rattle.tt_value.specs.declared.reply.Stop.TheVariants.{Logs};
+
+    // A run of which no line was done yet.
+    fn new(
+        alloc: Global,
+        engine: Engine,
+        script: &'a mut S,
+        sink: &'a mut K,
+        logs: &'a mut L,
+    ) -> ScriptRun<'a, S, K, L>
+        ensures script { (result.script.ghost_name ≡ script.entry.ghost_name) × (result.script.now ≡ script.old) }
+        ensures sink { (result.sink.ghost_name ≡ sink.entry.ghost_name) × (result.sink.now ≡ sink.old) }
+        ensures logs { (result.logs.ghost_name ≡ logs.entry.ghost_name) × (result.logs.now ≡ logs.old) }
+        ensures engine { result.engine ≡ engine }
+        ensures start { IsAtStart result.reader }
+    {
+        ScriptRun {
+            alloc,
+            engine,
+            reader: LineReader::new(),
+            line: LineBuf::new(),
+            script,
+            sink,
+            logs,
+        }
+    }
 
     // Does the lines of the script, up to the first that fails, and forces the log at the end.
     fn do_lines(&mut self) -> RunEnd
