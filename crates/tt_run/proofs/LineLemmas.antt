@@ -15,6 +15,7 @@ use Rattle.tt_engine.specs.declared.engine.Engine.{Engine}
 use Rattle.tt_engine.specs.declared.request.Request.{Request}
 use Rattle.tt_engine.specs.Engine.{Represents, Steps}
 use Rattle.tt_engine.specs.RepresentsLaws.{forced_now, forced_settled}
+use Rattle.tt_run.specs.declared.devices.Devices.{Devices}
 use Rattle.tt_run.specs.declared.run_end.Round.{Round}
 use Rattle.tt_run.specs.declared.run_end.RunEnd.{RunEnd}
 use Rattle.tt_run.specs.declared.run_end.RunEnd.TheVariants.{AtEnd, AtLine, AtSink, AtScript, ScriptOver}
@@ -26,7 +27,7 @@ use Rattle.tt_run.specs.declared.status.Status.TheVariants.{ScriptFault, SinkFau
 use Rattle.tt_run.specs.Devices.{SourceRose, VolumeRose}
 use Rattle.tt_run.specs.Run.{IsRunFrom, Moment, Streams, moment, streams}
 use Rattle.tt_run.specs.RunEnd.{end_of}
-use Rattle.tt_run.specs.ScriptRun.{DoesLine, EndsScript, EndsWith, HasEnded, IsNext, IsReady, IsRoundOf, IsRunEnd, IsRunning, IsStep, MakesRound, OnlyLogs, OnlyScript, OnlySink, ReadsNext, WasSettled, WritesRound, round, told_by}
+use Rattle.tt_run.specs.ScriptRun.{DoesLine, DoesLines, DoesScript, EndsScript, EndsWith, HasEnded, IsNext, IsReady, IsRoundOf, IsRunEnd, IsRunning, IsStep, MakesRound, OnlyLogs, OnlyScript, OnlySink, ReadsNext, WasSettled, WritesRound, round, told_by}
 use Rattle.tt_run.proofs.FaultLemmas.{rose_if}
 use Rattle.tt_run.proofs.RunLemmas.{ended_script, failed_line, failed_put, failed_script, goes_on, goes_past, has_moved, long_script}
 
@@ -178,3 +179,12 @@ line_logs g a b c z r result only fault put ends =
     let rose : RoseWhere g.exact (EndsWith (VolumeFault Logs) result) (g.faults b.logs.now) (g.faults c.logs.now) =
         rose_if g.exact (r.stop ≡ Some Logs) (EndsWith (VolumeFault Logs) result) (g.faults b.logs.now) (g.faults c.logs.now) (round_stop_named r result ends) (round_named_stop r result ends) fault in
     rw (sym only.logs, put.logs) rose
+
+-- ---- a whole script
+
+-- the lines were done of a run that was made over these devices, and left them so
+pub script_done : {S A K L C B : Type 0} (s : SourceGhosts S) (k : SinkGhosts K) (g : Ghosts L) (engine : Engine) (old new : Devices S A K L C B) (first last : ScriptRun S K L) (end : RunEnd) → first.script.now ≡ old.script → first.sink.now ≡ old.sink → first.logs.now ≡ old.logs
+    → first.engine ≡ engine → DoesLines s k g first last end → last.script.now ≡ new.script → last.sink.now ≡ new.sink → last.logs.now ≡ new.logs → DoesScript s k g engine old new end
+script_done s k g engine old new first last end script sink logs same_engine does last_script last_sink last_logs told state stands =
+    let begun : Represents first.engine (g.now first.logs.now) state = rw (same_engine, logs) stands in
+    rw (sym script, sym sink, sym logs, sym same_engine, sym last_script, sym last_sink, sym last_logs) (does told state begun)

@@ -51,21 +51,11 @@ pub(crate) fn do_script<S: Source, A, K: Sink, L: Volume, C, B>(
         &mut devices.sink,
         &mut devices.logs,
     );
-    let end = run.do_lines();
-    // What the borrowed devices came to is known where the run is taken apart, and not where it is dropped.
-    let ScriptRun {
-        alloc: _alloc,
-        engine: _engine,
-        reader: _reader,
-        line: _line,
-        script: _script,
-        sink: _sink,
-        logs: _logs,
-    } = run;
-    end
+    run.do_lines()
 }
 
 // A script that is being done on an open database.
+#[derive(Drop)]
 struct ScriptRun<'a, S, K, L> {
     alloc: Global,
     engine: Engine,
