@@ -51,11 +51,21 @@ pub(crate) fn do_script<S: Source, A, K: Sink, L: Volume, C, B>(
         &mut devices.sink,
         &mut devices.logs,
     );
-    run.do_lines()
+    let end = run.do_lines();
+    // What the borrowed devices came to is known where the run is taken apart, and not where it is dropped.
+    let ScriptRun {
+        alloc: _alloc,
+        engine: _engine,
+        reader: _reader,
+        line: _line,
+        script: _script,
+        sink: _sink,
+        logs: _logs,
+    } = run;
+    end
 }
 
 // A script that is being done on an open database.
-#[derive(Drop)]
 struct ScriptRun<'a, S, K, L> {
     alloc: Global,
     engine: Engine,
@@ -81,9 +91,12 @@ impl<'a, S: Source, K: Sink, L: Volume> ScriptRun<'a, S, K, L> {
         sink: &'a mut K,
         logs: &'a mut L,
     ) -> ScriptRun<'a, S, K, L>
-        ensures script { (result.script.ghost_name ≡ script.entry.ghost_name) × (result.script.now ≡ script.old) }
-        ensures sink { (result.sink.ghost_name ≡ sink.entry.ghost_name) × (result.sink.now ≡ sink.old) }
-        ensures logs { (result.logs.ghost_name ≡ logs.entry.ghost_name) × (result.logs.now ≡ logs.old) }
+        ensures same_script { result.script.ghost_name ≡ script.entry.ghost_name }
+        ensures same_sink { result.sink.ghost_name ≡ sink.entry.ghost_name }
+        ensures same_logs { result.logs.ghost_name ≡ logs.entry.ghost_name }
+        ensures script { result.script.now ≡ script.old }
+        ensures sink { result.sink.now ≡ sink.old }
+        ensures logs { result.logs.now ≡ logs.old }
         ensures engine { result.engine ≡ engine }
         ensures start { IsAtStart result.reader }
     {
@@ -104,7 +117,9 @@ impl<'a, S: Source, K: Sink, L: Volume> ScriptRun<'a, S, K, L> {
         requires start { IsAtStart self.old.reader }
         ensures ran { DoesLines S.Source K.Sink L.Volume self.old self.new result }
         ensures ends { IsRunEnd result }
-        ensures references { KeepsReferences self.old self.new }
+        ensures same_script { self.new.script.ghost_name ≡ self.old.script.ghost_name }
+        ensures same_sink { self.new.sink.ghost_name ≡ self.old.sink.ghost_name }
+        ensures same_logs { self.new.logs.ghost_name ≡ self.old.logs.ghost_name }
         ensures script_fault { SourceFaults S.Source ScriptFault self.old.script.now self.new.script.now (status_of result) }
         ensures sink_fault { SinkFaults K.Sink self.old.sink.now self.new.sink.now (status_of result) }
         ensures logs_fault { VolumeFaults L.Volume Logs self.old.logs.now self.new.logs.now (status_of result) }
