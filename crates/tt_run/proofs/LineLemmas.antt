@@ -15,6 +15,7 @@ use Rattle.tt_engine.specs.declared.engine.Engine.{Engine}
 use Rattle.tt_engine.specs.declared.request.Request.{Request}
 use Rattle.tt_engine.specs.Engine.{Represents, Steps}
 use Rattle.tt_engine.specs.RepresentsLaws.{forced_now, forced_settled}
+use Rattle.tt_run.specs.declared.devices.Devices.{Devices}
 use Rattle.tt_run.specs.declared.run_end.Round.{Round}
 use Rattle.tt_run.specs.declared.run_end.RunEnd.{RunEnd}
 use Rattle.tt_run.specs.declared.run_end.RunEnd.TheVariants.{AtEnd, AtLine, AtSink, AtScript, ScriptOver}
@@ -26,7 +27,7 @@ use Rattle.tt_run.specs.declared.status.Status.TheVariants.{ScriptFault, SinkFau
 use Rattle.tt_run.specs.Devices.{SourceRose, VolumeRose}
 use Rattle.tt_run.specs.Run.{IsRunFrom, Moment, Streams, moment, streams}
 use Rattle.tt_run.specs.RunEnd.{end_of}
-use Rattle.tt_run.specs.ScriptRun.{DoesLine, DoesLines, DoesScript, EndsScript, EndsWith, HasEnded, IsNext, IsReady, IsRoundOf, IsRunEnd, IsRunning, IsStep, MakesRound, OnlyLogs, OnlyScript, OnlySink, ReadsNext, WasSettled, WritesRound, round, told_by, told_of}
+use Rattle.tt_run.specs.ScriptRun.{DoesLine, DoesLines, DoesScript, EndsScript, EndsWith, HasEnded, IsNext, IsReady, IsRoundOf, IsRunEnd, IsRunning, IsStep, MakesRound, OnlyLogs, OnlyScript, OnlySink, ReadsNext, WasSettled, WritesRound, round, told_by}
 use Rattle.tt_run.proofs.FaultLemmas.{rose_if}
 use Rattle.tt_run.proofs.RunLemmas.{ended_script, failed_line, failed_put, failed_script, goes_on, goes_past, has_moved, long_script}
 
@@ -182,8 +183,8 @@ line_logs g a b c z r result only fault put ends =
 -- ---- a whole script
 
 -- the lines were done of a run that was made over these devices, and left them so
-pub script_done : {S K L : Type 0} (s : SourceGhosts S) (k : SinkGhosts K) (g : Ghosts L) (engine : Engine) (script script' : S) (sink sink' : K) (logs logs' : L) (first last : ScriptRun S K L) (end : RunEnd) → first.script.now ≡ script → first.sink.now ≡ sink → first.logs.now ≡ logs
-    → first.engine ≡ engine → DoesLines s k g first last end → last.script.now ≡ script' → last.sink.now ≡ sink' → last.logs.now ≡ logs' → DoesScript g engine (told_of s k script script' sink sink') logs logs' end
-script_done s k g engine script script' sink sink' logs logs' first last end same_script same_sink same_logs same_engine does last_script last_sink last_logs told state stands =
-    let begun : Represents first.engine (g.now first.logs.now) state = rw (same_engine, same_logs) stands in
-    rw (sym same_script, sym same_sink, sym same_logs, sym same_engine, sym last_script, sym last_sink, sym last_logs) (does told state begun)
+pub script_done : {S A K L C B : Type 0} (s : SourceGhosts S) (k : SinkGhosts K) (g : Ghosts L) (engine : Engine) (old new : Devices S A K L C B) (first last : ScriptRun S K L) (end : RunEnd) → first.script.now ≡ old.script → first.sink.now ≡ old.sink → first.logs.now ≡ old.logs
+    → first.engine ≡ engine → DoesLines s k g first last end → last.script.now ≡ new.script → last.sink.now ≡ new.sink → last.logs.now ≡ new.logs → DoesScript s k g engine old new end
+script_done s k g engine old new first last end script sink logs same_engine does last_script last_sink last_logs told state stands =
+    let begun : Represents first.engine (g.now first.logs.now) state = rw (same_engine, logs) stands in
+    rw (sym script, sym sink, sym logs, sym same_engine, sym last_script, sym last_sink, sym last_logs) (does told state begun)

@@ -126,7 +126,7 @@ create_not_before _ ends before = ends
 -- a run whose lines were begun
 pub lines_ran : {S A K L C B : Type 0} (s : SourceGhosts S) (k : SinkGhosts K) (g : Ghosts L) (settings : Settings) (old new : Devices S A K L C B) (engine : Engine) (opened : L) (end : RunEnd) (status : Status)
     → g.told → Opens g settings old.logs opened (Ok engine) → ((found : Opened) → IsSinceOpening (begun_over settings (g.now old.logs) found))
-    → DoesScript g engine (told_between s k old new) opened new.logs end → IsRunEnd end → status ≡ status_of end → RunsWith s k g settings old new status
+    → DoesScript s k g engine (record old { logs = opened }) new end → IsRunEnd end → status ≡ status_of end → RunsWith s k g settings old new status
 lines_ran s k g settings old new engine opened end status told opens since does ends is =
     let started = opens.started in
     let now_old = g.now old.logs in

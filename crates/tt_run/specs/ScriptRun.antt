@@ -108,17 +108,14 @@ DoesLines s k g old new end =
     → IsRunFrom g (WasSettled g old.engine (moment state old.logs.now)) (told_by s k (s.left old.script.now) (k.given old.sink.now) new) (moment state old.logs.now) end new.logs.now
 
 -- what the streams of a run tell
-abbrev pub told_of : {S K : Type 0} → SourceGhosts S → SinkGhosts K → S → S → K → K → Streams
-told_of s k script script' sink sink' = streams (s.left script) (s.left script') (k.given sink) (k.given sink')
-
--- what the streams among the devices of a run tell
 abbrev pub told_between : {S A K L C B : Type 0} → SourceGhosts S → SinkGhosts K → Devices S A K L C B → Devices S A K L C B → Streams
-told_between s k old new = told_of s k old.script new.script old.sink new.sink
+told_between s k old new = streams (s.left old.script) (s.left new.script) (k.given old.sink) (k.given new.sink)
 
 -- The script was done on an open database: it is a run from each state that the engine stands for.
-abbrev pub DoesScript : {L : Type 0} → Ghosts L → Engine → Streams → L → L → RunEnd → Type 0
-DoesScript g engine told old new end =
-    g.told → (state : State) → Represents engine (g.now old) state → IsRunFrom g (WasSettled g engine (moment state old)) told (moment state old) end new
+abbrev pub DoesScript : {S A K L C B : Type 0} → SourceGhosts S → SinkGhosts K → Ghosts L → Engine → Devices S A K L C B → Devices S A K L C B → RunEnd → Type 0
+DoesScript s k g engine old new end =
+    g.told → (state : State) → Represents engine (g.now old.logs) state
+    → IsRunFrom g (WasSettled g engine (moment state old.logs)) (told_between s k old new) (moment state old.logs) end new.logs
 
 -- ---- how a run may end
 

@@ -5,10 +5,11 @@ ghost use Rattle.tt_disk.specs.Faults.{HasCause};
 ghost use Rattle.tt_flow.specs.Lines.{bytes_to_come};
 ghost use Rattle.tt_engine.specs.Request.{IsReplyInUse};
 ghost use Rattle.tt_log.specs.Calls.{IsOpenOn};
-ghost use Rattle.tt_run.specs.Devices.{SinkFaults, SourceFaults, VolumeFaults};
+ghost use Rattle.tt_run.specs.Devices.{KeepsRest, SinkFaults, SourceFaults, VolumeFaults};
 ghost use Rattle.tt_run.specs.RunEnd.{status_of};
-ghost use Rattle.tt_run.specs.ScriptRun.{DoesScript, IsRunEnd, told_of};
+ghost use Rattle.tt_run.specs.ScriptRun.{DoesScript, IsRunEnd};
 
+use crate::devices::Devices;
 use crate::reply::reply_text;
 use crate::request::read_request;
 use crate::run_end::{Round, RunEnd};
@@ -30,21 +31,26 @@ pub(crate) enum NextLine {
 }
 
 /// Does the lines of a script on an open database, up to the first that fails, and forces the log at the end.
-pub(crate) fn do_script<S: Source, K: Sink, L: Volume>(
+pub(crate) fn do_script<S: Source, A, K: Sink, L: Volume, C, B>(
     alloc: Global,
     engine: Engine,
-    script: &mut S,
-    sink: &mut K,
-    logs: &mut L,
+    devices: &mut Devices<S, A, K, L, C, B>,
 ) -> RunEnd
-    requires open { IsOpenOn L.Volume engine.log logs.old }
-    ensures ran { DoesScript L.Volume engine (told_of S.Source K.Sink script.old script.new sink.old sink.new) logs.old logs.new result }
+    requires open { IsOpenOn L.Volume engine.log devices.old.logs }
+    ensures ran { DoesScript S.Source K.Sink L.Volume engine devices.old devices.new result }
     ensures ends { IsRunEnd result }
-    ensures script_fault { SourceFaults S.Source Status.ScriptFault script.old script.new (status_of result) }
-    ensures sink_fault { SinkFaults K.Sink sink.old sink.new (status_of result) }
-    ensures logs_fault { VolumeFaults L.Volume Stop.Logs logs.old logs.new (status_of result) }
+    ensures rest { KeepsRest devices.old devices.new }
+    ensures script_fault { SourceFaults S.Source Status.ScriptFault devices.old.script devices.new.script (status_of result) }
+    ensures sink_fault { SinkFaults K.Sink devices.old.sink devices.new.sink (status_of result) }
+    ensures logs_fault { VolumeFaults L.Volume Stop.Logs devices.old.logs devices.new.logs (status_of result) }
 {
-    let mut run = ScriptRun::new(alloc, engine, script, sink, logs);
+    let mut run = ScriptRun::new(
+        alloc,
+        engine,
+        &mut devices.script,
+        &mut devices.sink,
+        &mut devices.logs,
+    );
     let end = run.do_lines();
     // What the borrowed devices came to is known where the run is taken apart, and not where it is dropped.
     let ScriptRun {

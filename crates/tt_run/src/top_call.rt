@@ -117,14 +117,7 @@ fn run_script<S: Source, A, K: Sink, L: Volume, C, B>(
     ensures logs_fault { VolumeFaults L.Volume Stop.Logs devices.old.logs devices.new.logs result }
 {
     match Engine::start(alloc, settings, &mut devices.logs) {
-        Ok(engine) => do_script(
-            alloc,
-            engine,
-            &mut devices.script,
-            &mut devices.sink,
-            &mut devices.logs,
-        )
-        .status(),
+        Ok(engine) => do_script(alloc, engine, devices).status(),
         Err(OpenRefusal::NoDatabase) => Status::NoDatabase,
         Err(OpenRefusal::Damaged(damage)) => Status::Damaged(damage),
         Err(OpenRefusal::LogOut) => Status::LogOut,

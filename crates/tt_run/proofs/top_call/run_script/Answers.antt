@@ -10,7 +10,7 @@ use Rattle.tt_run.proofs.top_call.run_script.Goals as goal
 
 pub returns-in-Ok-clause-ran : goal.returns-in-Ok-clause-ran
 returns-in-Ok-clause-ran g c = λ told.
-    lines_ran g.S.Source g.K.Sink g.L.Volume c.args.settings.now c.args.devices.now _ c.in-Ok.engine c.start.new.logs c.do_script.result c.status.result told (c.in-Ok.ensures.opens told) c.start.ensures.since
+    lines_ran g.S.Source g.K.Sink g.L.Volume c.args.settings.now c.args.devices.now c.do_script.new.devices c.in-Ok.engine c.start.new.logs c.do_script.result c.status.result told (c.in-Ok.ensures.opens told) c.start.ensures.since
     c.do_script.ensures.ran c.do_script.ensures.ends c.status.ensures
 
 pub returns-in-Ok-clause-refused : goal.returns-in-Ok-clause-refused
