@@ -24,12 +24,18 @@ use Rattle.tt_run.specs.declared.script_run.NextLine.TheVariants.{Asks, Skipped,
 use Rattle.tt_run.specs.declared.script_run.ScriptRun.{ScriptRun}
 use Rattle.tt_run.specs.declared.status.Status.{Status}
 use Rattle.tt_run.specs.declared.status.Status.TheVariants.{ScriptFault, SinkFault, VolumeFault}
-use Rattle.tt_run.specs.Devices.{SourceRose, VolumeRose}
+use Rattle.tt_run.specs.Devices.{KeepsRest, SourceRose, VolumeRose}
 use Rattle.tt_run.specs.Run.{IsRunFrom, Moment, Streams, moment, streams}
 use Rattle.tt_run.specs.RunEnd.{end_of}
 use Rattle.tt_run.specs.ScriptRun.{DoesLine, DoesLines, DoesScript, EndsScript, EndsWith, HasEnded, IsNext, IsReady, IsRoundOf, IsRunEnd, IsRunning, IsStep, MakesRound, OnlyLogs, OnlyScript, OnlySink, ReadsNext, WasSettled, WritesRound, round, told_by}
 use Rattle.tt_run.proofs.FaultLemmas.{rose_if}
 use Rattle.tt_run.proofs.RunLemmas.{ended_script, failed_line, failed_put, failed_script, goes_on, goes_past, has_moved, long_script}
+
+-- ---- what stays
+
+-- over two calls
+pub rest_then : {S A K L C B : Type 0} (a b c : Devices S A K L C B) → KeepsRest a b → KeepsRest b c → KeepsRest a c
+rest_then a b c first second = record { attributes = second.attributes ∙ first.attributes; images = second.images ∙ first.images; backups = second.backups ∙ first.backups }
 
 -- ---- what came of a round
 
@@ -39,7 +45,7 @@ pub data RoundEnds (r : Round) (result : Option RunEnd) : Type 0 where
   sinks : r.stop ≡ None → result ≡ Some (AtSink None) → RoundEnds r result
   stops : r.stop ≡ Some Logs → result ≡ Some (AtLine None Logs) → RoundEnds r result
 
-pub round_ends : {S K L : Type 0} (k : SinkGhosts K) (g : Ghosts L) (request : Request) (b c z : ScriptRun S K L) (r : Round) (result : Option RunEnd) → MakesRound g request b c r → WritesRound k r c.sink.now z.sink.now result → RoundEnds r result
+pub round_ends : {S A K L C B : Type 0} (k : SinkGhosts K) (g : Ghosts L) (request : Request) (b c z : ScriptRun S A K L C B) (r : Round) (result : Option RunEnd) → MakesRound g request b c r → WritesRound k r c.devices.now.sink z.devices.now.sink result → RoundEnds r result
 round_ends k g request b c z r result made written = by made.result made.is
   where
     by : (res : Result Reply Failed) → IsRoundOf res r → RoundEnds r result
@@ -79,79 +85,79 @@ round_named_stop r result (stops so is) named = so
 -- ---- one line
 
 -- a line that was skipped
-pub skipped_done : {S K L : Type 0} (s : SourceGhosts S) (k : SinkGhosts K) (g : Ghosts L) (a b : ScriptRun S K L) → ReadsNext s a b (Ok Skipped) → OnlyScript a b → DoesLine s k g a b None
+pub skipped_done : {S A K L C B : Type 0} (s : SourceGhosts S) (k : SinkGhosts K) (g : Ghosts L) (a b : ScriptRun S A K L C B) → ReadsNext s a b (Ok Skipped) → OnlyScript a b → DoesLine s k g a b None
 skipped_done s k g a b read only told first start script before state running =
-    let on : IsRunning g first start (streams script (s.left b.script.now) before (k.given a.sink.now)) b.reader a.engine (moment state a.logs.now) =
-        goes_past g first start script (s.left a.script.now) (s.left b.script.now) before (k.given a.sink.now) a.reader b.reader a.engine (moment state a.logs.now) running (read script running.lines running.given) in
+    let on : IsRunning g first start (streams script (s.left b.devices.now.script) before (k.given a.devices.now.sink)) b.reader a.engine (moment state a.devices.now.logs) =
+        goes_past g first start script (s.left a.devices.now.script) (s.left b.devices.now.script) before (k.given a.devices.now.sink) a.reader b.reader a.engine (moment state a.devices.now.logs) running (read script running.lines running.given) in
     (state, rw (only.engine, only.sink, only.logs) on)
 
 -- a script that couldn't be read on
-pub script_failed : {S K L : Type 0} (s : SourceGhosts S) (k : SinkGhosts K) (g : Ghosts L) (a b : ScriptRun S K L) (failed : Failed) → ReadsNext s a b (Err failed) → OnlyScript a b → DoesLine s k g a b (Some AtScript)
+pub script_failed : {S A K L C B : Type 0} (s : SourceGhosts S) (k : SinkGhosts K) (g : Ghosts L) (a b : ScriptRun S A K L C B) (failed : Failed) → ReadsNext s a b (Err failed) → OnlyScript a b → DoesLine s k g a b (Some AtScript)
 script_failed s k g a b failed read only told first start script before state running =
-    let on : IsRunFrom g (WasSettled g first start) (streams script (s.left b.script.now) before (k.given a.sink.now)) start AtScript a.logs.now =
-        failed_script g first start script (s.left a.script.now) (s.left b.script.now) before (k.given a.sink.now) a.reader a.engine (moment state a.logs.now) running (read script running.lines running.given) in
+    let on : IsRunFrom g (WasSettled g first start) (streams script (s.left b.devices.now.script) before (k.given a.devices.now.sink)) start AtScript a.devices.now.logs =
+        failed_script g first start script (s.left a.devices.now.script) (s.left b.devices.now.script) before (k.given a.devices.now.sink) a.reader a.engine (moment state a.devices.now.logs) running (read script running.lines running.given) in
     rw (only.sink, only.logs) on
 
 -- a script that is too long
-pub script_over : {S K L : Type 0} (s : SourceGhosts S) (k : SinkGhosts K) (g : Ghosts L) (a b : ScriptRun S K L) → ReadsNext s a b (Ok TooLong) → OnlyScript a b → DoesLine s k g a b (Some ScriptOver)
+pub script_over : {S A K L C B : Type 0} (s : SourceGhosts S) (k : SinkGhosts K) (g : Ghosts L) (a b : ScriptRun S A K L C B) → ReadsNext s a b (Ok TooLong) → OnlyScript a b → DoesLine s k g a b (Some ScriptOver)
 script_over s k g a b read only told first start script before state running =
-    let on : IsRunFrom g (WasSettled g first start) (streams script (s.left b.script.now) before (k.given a.sink.now)) start ScriptOver a.logs.now =
-        long_script g first start script (s.left a.script.now) (s.left b.script.now) before (k.given a.sink.now) a.reader a.engine (moment state a.logs.now) running (read script running.lines running.given) in
+    let on : IsRunFrom g (WasSettled g first start) (streams script (s.left b.devices.now.script) before (k.given a.devices.now.sink)) start ScriptOver a.devices.now.logs =
+        long_script g first start script (s.left a.devices.now.script) (s.left b.devices.now.script) before (k.given a.devices.now.sink) a.reader a.engine (moment state a.devices.now.logs) running (read script running.lines running.given) in
     rw (only.sink, only.logs) on
 
 -- the end of the script
-pub script_ends : {S K L : Type 0} (s : SourceGhosts S) (k : SinkGhosts K) (g : Ghosts L) (a b z : ScriptRun S K L) (end : RunEnd) → ReadsNext s a b (Ok End) → OnlyScript a b → EndsScript g b z end → OnlyLogs b z → DoesLine s k g a z (Some end)
+pub script_ends : {S A K L C B : Type 0} (s : SourceGhosts S) (k : SinkGhosts K) (g : Ghosts L) (a b z : ScriptRun S A K L C B) (end : RunEnd) → ReadsNext s a b (Ok End) → OnlyScript a b → EndsScript g b z end → OnlyLogs b z → DoesLine s k g a z (Some end)
 script_ends s k g a b z end read only ended rest told first start script before state running =
-    let stands : Represents b.engine (g.now b.logs.now) state = rw (only.engine, only.logs) (running.stands) in
-    let left : HasEnded g a.engine (moment state a.logs.now) z.logs.now end = rw (sym only.engine, sym only.logs) (ended told state stands) in
-    let on : IsRunFrom g (WasSettled g first start) (streams script (s.left b.script.now) before (k.given a.sink.now)) start end z.logs.now =
-        ended_script g first start script (s.left a.script.now) (s.left b.script.now) before (k.given a.sink.now) a.reader a.engine (moment state a.logs.now) z.logs.now end running (read script running.lines running.given) left in
+    let stands : Represents b.engine (g.now b.devices.now.logs) state = rw (only.engine, only.logs) (running.stands) in
+    let left : HasEnded g a.engine (moment state a.devices.now.logs) z.devices.now.logs end = rw (sym only.engine, sym only.logs) (ended told state stands) in
+    let on : IsRunFrom g (WasSettled g first start) (streams script (s.left b.devices.now.script) before (k.given a.devices.now.sink)) start end z.devices.now.logs =
+        ended_script g first start script (s.left a.devices.now.script) (s.left b.devices.now.script) before (k.given a.devices.now.sink) a.reader a.engine (moment state a.devices.now.logs) z.devices.now.logs end running (read script running.lines running.given) left in
     rw (rest.script, rest.sink, only.sink) on
 
 -- a line that asks for something
-pub line_done : {S K L : Type 0} (s : SourceGhosts S) (k : SinkGhosts K) (g : Ghosts L) (a b c z : ScriptRun S K L) (request : Request) (r : Round) (result : Option RunEnd)
-    → ReadsNext s a b (Ok (Asks request)) → OnlyScript a b → MakesRound g request b c r → OnlyLogs b c → WritesRound k r c.sink.now z.sink.now result → OnlySink c z → DoesLine s k g a z result
-line_done {S} {K} {L} s k g a b c z request r result read only made rest written put told first start script before state running =
+pub line_done : {S A K L C B : Type 0} (s : SourceGhosts S) (k : SinkGhosts K) (g : Ghosts L) (a b c z : ScriptRun S A K L C B) (request : Request) (r : Round) (result : Option RunEnd)
+    → ReadsNext s a b (Ok (Asks request)) → OnlyScript a b → MakesRound g request b c r → OnlyLogs b c → WritesRound k r c.devices.now.sink z.devices.now.sink result → OnlySink c z → DoesLine s k g a z result
+line_done {S} {A} {K} {L} s k g a b c z request r result read only made rest written put told first start script before state running =
     by made.result (rw (sym only.engine, sym only.logs, put.engine, put.logs) (made.steps told)) made.is
   where
     m : Moment L
-    m = moment state a.logs.now
+    m = moment state a.devices.now.logs
 
     before_line : Streams
-    before_line = streams script (s.left a.script.now) before (k.given a.sink.now)
+    before_line = streams script (s.left a.devices.now.script) before (k.given a.devices.now.sink)
 
-    next : IsNext script running.lines (Ok (Asks request)) z.reader (s.left z.script.now)
+    next : IsNext script running.lines (Ok (Asks request)) z.reader (s.left z.devices.now.script)
     next = rw (put.reader, rest.reader, put.script, rest.script) (read script running.lines running.given)
 
-    same_sink : c.sink ≡ a.sink
+    same_sink : c.devices.now.sink ≡ a.devices.now.sink
     same_sink = rest.sink ∙ only.sink
 
-    by : (res : Result Reply Failed) → Steps g a.engine a.logs.now request z.engine z.logs.now res → IsRoundOf res r → IsStep g first start (told_by s k script before z) z result
+    by : (res : Result Reply Failed) → Steps g a.engine a.devices.now.logs request z.engine z.devices.now.logs res → IsRoundOf res r → IsStep g first start (told_by s k script before z) z result
     by (Ok reply) steps is =
         let so = steps.done state running.stands in
         let unstopped : r.stop ≡ None = ap (λ (x : Round). x.stop) is in
-        let moved = has_moved g a.engine m z.engine request reply z.logs.now so
-            (λ t h. forced_now z.engine (g.now z.logs.now) (g.may z.logs.now) t h steps.ready) (λ t h. forced_settled z.engine (g.now z.logs.now) (g.may z.logs.now) t h steps.ready) in
+        let moved = has_moved g a.engine m z.engine request reply z.devices.now.logs so
+            (λ t h. forced_now z.engine (g.now z.devices.now.logs) (g.may z.devices.now.logs) t h steps.ready) (λ t h. forced_settled z.engine (g.now z.devices.now.logs) (g.may z.devices.now.logs) t h steps.ready) in
         elim (written.answered reply (ap (λ (x : Round). x.reply) is)) [
           inl w ↦ subst (λ (o : Option RunEnd). IsStep g first start (told_by s k script before z) z o) (sym (w.1 ∙ ap (λ (o : Option Stop). end_of (Some reply) o) unstopped))
-              (so.after, goes_on g first start script (s.left a.script.now) (s.left z.script.now) before (k.given a.sink.now) (k.given z.sink.now) a.reader z.reader a.engine z.engine m (moment so.after z.logs.now) request reply running next moved (rw (sym same_sink) w.0))
+              (so.after, goes_on g first start script (s.left a.devices.now.script) (s.left z.devices.now.script) before (k.given a.devices.now.sink) (k.given z.devices.now.sink) a.reader z.reader a.engine z.engine m (moment so.after z.devices.now.logs) request reply running next moved (rw (sym same_sink) w.0))
           | inr w ↦ subst (λ (o : Option RunEnd). IsStep g first start (told_by s k script before z) z o) (sym (w.2 ∙ ap (λ (o : Option Stop). Some (AtSink o)) unstopped))
-              (failed_put g first start script (s.left a.script.now) (s.left z.script.now) before (k.given a.sink.now) (k.given z.sink.now) a.reader z.reader a.engine z.engine m (moment so.after z.logs.now) request reply w.0 running next moved (rw (sym same_sink) w.1))
+              (failed_put g first start script (s.left a.devices.now.script) (s.left z.devices.now.script) before (k.given a.devices.now.sink) (k.given z.devices.now.sink) a.reader z.reader a.engine z.engine m (moment so.after z.devices.now.logs) request reply w.0 running next moved (rw (sym same_sink) w.1))
         ]
     by (Err failed) steps is =
         let stopped : r.stop ≡ Some Logs = ap (λ (x : Round). x.stop) is in
         let unwritten = written.unanswered (ap (λ (x : Round). x.reply) is) in
-        let on : IsRunFrom g (WasSettled g first start) (streams script (s.left z.script.now) before (k.given a.sink.now)) start (AtLine None Logs) z.logs.now =
-            failed_line g first start script (s.left a.script.now) (s.left z.script.now) before (k.given a.sink.now) a.reader z.reader a.engine m z.logs.now request running next (steps.stopped state running.stands) in
+        let on : IsRunFrom g (WasSettled g first start) (streams script (s.left z.devices.now.script) before (k.given a.devices.now.sink)) start (AtLine None Logs) z.devices.now.logs =
+            failed_line g first start script (s.left a.devices.now.script) (s.left z.devices.now.script) before (k.given a.devices.now.sink) a.reader z.reader a.engine m z.devices.now.logs request running next (steps.stopped state running.stands) in
         subst (λ (o : Option RunEnd). IsStep g first start (told_by s k script before z) z o) (sym (unwritten.1 ∙ ap (λ (o : Option Stop). end_of None o) stopped))
         (rw (unwritten.0, same_sink) on)
 
 -- behind a line with which the run goes on the log is open
-pub line_ready : {S K L : Type 0} (k : SinkGhosts K) (g : Ghosts L) (b c z : ScriptRun S K L) (request : Request) (r : Round) (result : Option RunEnd) → MakesRound g request b c r → WritesRound k r c.sink.now z.sink.now result → OnlySink c z
+pub line_ready : {S A K L C B : Type 0} (k : SinkGhosts K) (g : Ghosts L) (b c z : ScriptRun S A K L C B) (request : Request) (r : Round) (result : Option RunEnd) → MakesRound g request b c r → WritesRound k r c.devices.now.sink z.devices.now.sink result → OnlySink c z
     → IfNone result (IsReady g z)
 line_ready k g b c z request r result made written put = by result (round_ends k g request b c z r result made written)
   where
-    unstopped_ready : (res : Result Reply Failed) → (g.told → Steps g b.engine b.logs.now request c.engine c.logs.now res) → IsRoundOf res r → r.stop ≡ None → IsReady g c
+    unstopped_ready : (res : Result Reply Failed) → (g.told → Steps g b.engine b.devices.now.logs request c.engine c.devices.now.logs res) → IsRoundOf res r → r.stop ≡ None → IsReady g c
     unstopped_ready (Ok reply) steps is none = λ told. (steps told).ready
     unstopped_ready (Err failed) steps is none = let other : Some Logs ≡ None = sym (ap (λ (x : Round). x.stop) is) ∙ none in let bad : ⊥ = cc in absurd bad
 
@@ -164,27 +170,27 @@ line_ready k g b c z request r result made written put = by result (round_ends k
 -- ---- counts of faults
 
 -- of the script, over a line that was read
-pub line_script : {S K L : Type 0} (s : SourceGhosts S) (a b c z : ScriptRun S K L) (request : Request) (next : Result NextLine Failed) (r : Round) (result : Option RunEnd) → next ≡ Ok (Asks request)
-    → HasCause s.exact (s.faults a.script.now) (s.faults b.script.now) next → OnlyLogs b c → OnlySink c z → RoundEnds r result → SourceRose s (EndsWith ScriptFault result) a.script.now z.script.now
+pub line_script : {S A K L C B : Type 0} (s : SourceGhosts S) (a b c z : ScriptRun S A K L C B) (request : Request) (next : Result NextLine Failed) (r : Round) (result : Option RunEnd) → next ≡ Ok (Asks request)
+    → HasCause s.exact (s.faults a.devices.now.script) (s.faults b.devices.now.script) next → OnlyLogs b c → OnlySink c z → RoundEnds r result → SourceRose s (EndsWith ScriptFault result) a.devices.now.script z.devices.now.script
 line_script s a b c z request next r result is cause rest put ends =
-    let answered : HasCause s.exact (s.faults a.script.now) (s.faults b.script.now) (Ok (Asks request)) = subst (λ (n : Result NextLine Failed). HasCause s.exact (s.faults a.script.now) (s.faults b.script.now) n) is cause in
-    let rose : RoseWhere s.exact (EndsWith ScriptFault result) (s.faults a.script.now) (s.faults b.script.now) =
+    let answered : HasCause s.exact (s.faults a.devices.now.script) (s.faults b.devices.now.script) (Ok (Asks request)) = subst (λ (n : Result NextLine Failed). HasCause s.exact (s.faults a.devices.now.script) (s.faults b.devices.now.script) n) is cause in
+    let rose : RoseWhere s.exact (EndsWith ScriptFault result) (s.faults a.devices.now.script) (s.faults b.devices.now.script) =
         record { later = answered.later; failed = λ named. absurd (round_no_script r result ends named); stays = inr answered.stays } in
     rw (put.script, rest.script) rose
 
 -- of the log files, over a line
-pub line_logs : {S K L : Type 0} (g : Ghosts L) (a b c z : ScriptRun S K L) (r : Round) (result : Option RunEnd) → OnlyScript a b → VolumeRose g (r.stop ≡ Some Logs) b.logs.now c.logs.now → OnlySink c z → RoundEnds r result
-    → VolumeRose g (EndsWith (VolumeFault Logs) result) a.logs.now z.logs.now
+pub line_logs : {S A K L C B : Type 0} (g : Ghosts L) (a b c z : ScriptRun S A K L C B) (r : Round) (result : Option RunEnd) → OnlyScript a b → VolumeRose g (r.stop ≡ Some Logs) b.devices.now.logs c.devices.now.logs → OnlySink c z → RoundEnds r result
+    → VolumeRose g (EndsWith (VolumeFault Logs) result) a.devices.now.logs z.devices.now.logs
 line_logs g a b c z r result only fault put ends =
-    let rose : RoseWhere g.exact (EndsWith (VolumeFault Logs) result) (g.faults b.logs.now) (g.faults c.logs.now) =
-        rose_if g.exact (r.stop ≡ Some Logs) (EndsWith (VolumeFault Logs) result) (g.faults b.logs.now) (g.faults c.logs.now) (round_stop_named r result ends) (round_named_stop r result ends) fault in
+    let rose : RoseWhere g.exact (EndsWith (VolumeFault Logs) result) (g.faults b.devices.now.logs) (g.faults c.devices.now.logs) =
+        rose_if g.exact (r.stop ≡ Some Logs) (EndsWith (VolumeFault Logs) result) (g.faults b.devices.now.logs) (g.faults c.devices.now.logs) (round_stop_named r result ends) (round_named_stop r result ends) fault in
     rw (sym only.logs, put.logs) rose
 
 -- ---- a whole script
 
 -- the lines were done of a run that was made over these devices, and left them so
-pub script_done : {S A K L C B : Type 0} (s : SourceGhosts S) (k : SinkGhosts K) (g : Ghosts L) (engine : Engine) (old new : Devices S A K L C B) (first last : ScriptRun S K L) (end : RunEnd) → first.script.now ≡ old.script → first.sink.now ≡ old.sink → first.logs.now ≡ old.logs
-    → first.engine ≡ engine → DoesLines s k g first last end → last.script.now ≡ new.script → last.sink.now ≡ new.sink → last.logs.now ≡ new.logs → DoesScript s k g engine old new end
-script_done s k g engine old new first last end script sink logs same_engine does last_script last_sink last_logs told state stands =
-    let begun : Represents first.engine (g.now first.logs.now) state = rw (same_engine, logs) stands in
-    rw (sym script, sym sink, sym logs, sym same_engine, sym last_script, sym last_sink, sym last_logs) (does told state begun)
+pub script_done : {S A K L C B : Type 0} (s : SourceGhosts S) (k : SinkGhosts K) (g : Ghosts L) (engine : Engine) (old new : Devices S A K L C B) (first last : ScriptRun S A K L C B) (end : RunEnd)
+    → first.devices.now ≡ old → first.engine ≡ engine → DoesLines s k g first last end → last.devices.now ≡ new → DoesScript s k g engine old new end
+script_done s k g engine old new first last end same_devices same_engine does left told state stands =
+    let begun : Represents first.engine (g.now first.devices.now.logs) state = rw (same_engine, same_devices) stands in
+    rw (sym same_devices, sym same_engine, sym left) (does told state begun)

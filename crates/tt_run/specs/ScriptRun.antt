@@ -16,6 +16,7 @@ use Rattle.tt_engine.specs.declared.engine.Engine.{Engine}
 use Rattle.tt_engine.specs.declared.request.Request.{Request}
 use Rattle.tt_engine.specs.Engine.{EndCallsLog, Represents, Steps}
 use Rattle.tt_engine.specs.Request.{script_ended}
+use Rattle.tt_run.specs.Devices.{KeepsRest}
 use Rattle.tt_run.specs.declared.devices.Devices.{Devices}
 use Rattle.tt_run.specs.declared.run_end.Round.{Round}
 use Rattle.tt_run.specs.declared.run_end.RunEnd.{RunEnd}
@@ -32,36 +33,39 @@ use Rattle.tt_run.specs.Run.{AreLinesBetween, AreLinesDone, IsRunFrom, Leaves, M
 -- ---- what stays
 
 -- The log of the run stands as its last call left it.
-abbrev pub IsReady : {S K L : Type 0} → Ghosts L → ScriptRun S K L → Type 0
-IsReady g run = g.told → IsOpen run.engine.log (g.now run.logs.now) (g.may run.logs.now)
+abbrev pub IsReady : {S A K L C B : Type 0} → Ghosts L → ScriptRun S A K L C B → Type 0
+IsReady g run = g.told → IsOpen run.engine.log (g.now run.devices.now.logs) (g.may run.devices.now.logs)
 
 -- a reader that has read no line yet
 abbrev pub IsAtStart : LineReader → Type 0
 IsAtStart reader = (bytes : List ℕ) → HasGiven bytes [] reader bytes
 
 -- The run borrows the devices that it borrowed before.
-abbrev pub KeepsReferences : {S K L : Type 0} → ScriptRun S K L → ScriptRun S K L → Type 0
+abbrev pub KeepsReferences : {S A K L C B : Type 0} → ScriptRun S A K L C B → ScriptRun S A K L C B → Type 0
 KeepsReferences old new =
-    (new.script.ghost_name ≡ old.script.ghost_name) × (new.sink.ghost_name ≡ old.sink.ghost_name) × (new.logs.ghost_name ≡ old.logs.ghost_name)
+    new.devices.ghost_name ≡ old.devices.ghost_name
 
 -- Nothing had a call but the script and its reader.
-pub record OnlyScript {S K L : Type 0} (old new : ScriptRun S K L) : Type 0 where
+pub record OnlyScript {S A K L C B : Type 0} (old new : ScriptRun S A K L C B) : Type 0 where
   pub engine : new.engine ≡ old.engine
-  pub sink : new.sink ≡ old.sink
-  pub logs : new.logs ≡ old.logs
+  pub sink : new.devices.now.sink ≡ old.devices.now.sink
+  pub logs : new.devices.now.logs ≡ old.devices.now.logs
+  pub rest : KeepsRest old.devices.now new.devices.now
 
 -- Nothing had a call but the sink.
-pub record OnlySink {S K L : Type 0} (old new : ScriptRun S K L) : Type 0 where
+pub record OnlySink {S A K L C B : Type 0} (old new : ScriptRun S A K L C B) : Type 0 where
   pub engine : new.engine ≡ old.engine
   pub reader : new.reader ≡ old.reader
-  pub script : new.script ≡ old.script
-  pub logs : new.logs ≡ old.logs
+  pub script : new.devices.now.script ≡ old.devices.now.script
+  pub logs : new.devices.now.logs ≡ old.devices.now.logs
+  pub rest : KeepsRest old.devices.now new.devices.now
 
 -- Nothing had a call but the engine and the log files.
-pub record OnlyLogs {S K L : Type 0} (old new : ScriptRun S K L) : Type 0 where
+pub record OnlyLogs {S A K L C B : Type 0} (old new : ScriptRun S A K L C B) : Type 0 where
   pub reader : new.reader ≡ old.reader
-  pub script : new.script ≡ old.script
-  pub sink : new.sink ≡ old.sink
+  pub script : new.devices.now.script ≡ old.devices.now.script
+  pub sink : new.devices.now.sink ≡ old.devices.now.sink
+  pub rest : KeepsRest old.devices.now new.devices.now
 
 -- ---- a run while it goes on
 
@@ -86,26 +90,26 @@ pub record IsRunning {V : Type 0} (g : Ghosts V) (first : Engine) (start : Momen
   pub kept : WasSettled g first start → CrashLeavesForced e.log (g.now m.logs) (g.may m.logs)
 
 -- After one line more, which was answered or skipped, the run goes on, or has ended.
-abbrev pub IsStep : {S K L : Type 0} → Ghosts L → Engine → Moment L → Streams → ScriptRun S K L → Option RunEnd → Type 0
-IsStep g first start told run None = (s : State) × IsRunning g first start told run.reader run.engine (moment s run.logs.now)
-IsStep g first start told run (Some end) = IsRunFrom g (WasSettled g first start) told start end run.logs.now
+abbrev pub IsStep : {S A K L C B : Type 0} → Ghosts L → Engine → Moment L → Streams → ScriptRun S A K L C B → Option RunEnd → Type 0
+IsStep g first start told run None = (s : State) × IsRunning g first start told run.reader run.engine (moment s run.devices.now.logs)
+IsStep g first start told run (Some end) = IsRunFrom g (WasSettled g first start) told start end run.devices.now.logs
 
 -- what the streams tell of a run whose script had these bytes and whose sink had been given those
-abbrev pub told_by : {S K L : Type 0} → SourceGhosts S → SinkGhosts K → Option (List ℕ) → Option (List ℕ) → ScriptRun S K L → Streams
-told_by s k script before run = streams script (s.left run.script.now) before (k.given run.sink.now)
+abbrev pub told_by : {S A K L C B : Type 0} → SourceGhosts S → SinkGhosts K → Option (List ℕ) → Option (List ℕ) → ScriptRun S A K L C B → Streams
+told_by s k script before run = streams script (s.left run.devices.now.script) before (k.given run.devices.now.sink)
 
 -- The next line was done: a run that went on takes one more step.
-abbrev pub DoesLine : {S K L : Type 0} → SourceGhosts S → SinkGhosts K → Ghosts L → ScriptRun S K L → ScriptRun S K L → Option RunEnd → Type 0
-DoesLine {S} {K} {L} s k g old new result =
+abbrev pub DoesLine : {S A K L C B : Type 0} → SourceGhosts S → SinkGhosts K → Ghosts L → ScriptRun S A K L C B → ScriptRun S A K L C B → Option RunEnd → Type 0
+DoesLine {S} {A} {K} {L} s k g old new result =
     g.told → (first : Engine) (start : Moment L) (script before : Option (List ℕ)) (state : State)
-    → IsRunning g first start (told_by s k script before old) old.reader old.engine (moment state old.logs.now)
+    → IsRunning g first start (told_by s k script before old) old.reader old.engine (moment state old.devices.now.logs)
     → IsStep g first start (told_by s k script before new) new result
 
 -- The lines of the script were done: it is a run from each state that the engine stands for.
-abbrev pub DoesLines : {S K L : Type 0} → SourceGhosts S → SinkGhosts K → Ghosts L → ScriptRun S K L → ScriptRun S K L → RunEnd → Type 0
+abbrev pub DoesLines : {S A K L C B : Type 0} → SourceGhosts S → SinkGhosts K → Ghosts L → ScriptRun S A K L C B → ScriptRun S A K L C B → RunEnd → Type 0
 DoesLines s k g old new end =
-    g.told → (state : State) → Represents old.engine (g.now old.logs.now) state
-    → IsRunFrom g (WasSettled g old.engine (moment state old.logs.now)) (told_by s k (s.left old.script.now) (k.given old.sink.now) new) (moment state old.logs.now) end new.logs.now
+    g.told → (state : State) → Represents old.engine (g.now old.devices.now.logs) state
+    → IsRunFrom g (WasSettled g old.engine (moment state old.devices.now.logs)) (told_by s k (s.left old.devices.now.script) (k.given old.devices.now.sink) new) (moment state old.devices.now.logs) end new.devices.now.logs
 
 -- what the streams of a run tell
 abbrev pub told_between : {S A K L C B : Type 0} → SourceGhosts S → SinkGhosts K → Devices S A K L C B → Devices S A K L C B → Streams
@@ -147,9 +151,9 @@ HasEnded g e m new (AtEnd (Some Logs)) = Leaves g (WasSettled g e m) m m.state (
 HasEnded g e m new _ = ⊥
 
 -- The end of the script was done, for each state that the engine stands for.
-abbrev pub EndsScript : {S K L : Type 0} → Ghosts L → ScriptRun S K L → ScriptRun S K L → RunEnd → Type 0
+abbrev pub EndsScript : {S A K L C B : Type 0} → Ghosts L → ScriptRun S A K L C B → ScriptRun S A K L C B → RunEnd → Type 0
 EndsScript g old new end =
-    g.told → (state : State) → Represents old.engine (g.now old.logs.now) state → HasEnded g old.engine (moment state old.logs.now) new.logs.now end
+    g.told → (state : State) → Represents old.engine (g.now old.devices.now.logs) state → HasEnded g old.engine (moment state old.devices.now.logs) new.devices.now.logs end
 
 -- ---- the next line
 
@@ -162,10 +166,10 @@ IsNext script given (Ok TooLong) reader left = AreLinesDone script left given Sc
 IsNext script given (Err failed) reader left = AreLinesDone script left given AtScript
 
 -- what came next in a script of which some lines were given
-abbrev pub ReadsNext : {S K L : Type 0} → SourceGhosts S → ScriptRun S K L → ScriptRun S K L → Result NextLine Failed → Type 0
+abbrev pub ReadsNext : {S A K L C B : Type 0} → SourceGhosts S → ScriptRun S A K L C B → ScriptRun S A K L C B → Result NextLine Failed → Type 0
 ReadsNext s old new result =
-    (script : Option (List ℕ)) (given : List (Option (List ℕ))) → IsGivenOf script given old.reader (s.left old.script.now)
-    → IsNext script given result new.reader (s.left new.script.now)
+    (script : Option (List ℕ)) (given : List (Option (List ℕ))) → IsGivenOf script given old.reader (s.left old.devices.now.script)
+    → IsNext script given result new.reader (s.left new.devices.now.script)
 
 -- there was a line
 abbrev pub IsLine : NextLine → Type 0
@@ -184,9 +188,9 @@ IsRoundOf (Ok reply) r = r ≡ round (Some reply) None
 IsRoundOf (Err failed) r = r ≡ round None (Some Logs)
 
 -- The engine did what a line asks for, and this is its round.
-pub record MakesRound {S K L : Type 0} (g : Ghosts L) (request : Request) (old new : ScriptRun S K L) (r : Round) : Type 0 where
+pub record MakesRound {S A K L C B : Type 0} (g : Ghosts L) (request : Request) (old new : ScriptRun S A K L C B) (r : Round) : Type 0 where
   pub result : Result Reply Failed
-  pub steps : g.told → Steps g old.engine old.logs.now request new.engine new.logs.now result
+  pub steps : g.told → Steps g old.engine old.devices.now.logs request new.engine new.devices.now.logs result
   pub is : IsRoundOf result r
 
 -- The text of a reply was written, or a part of it where the sink failed.

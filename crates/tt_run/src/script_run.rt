@@ -44,13 +44,7 @@ pub(crate) fn do_script<S: Source, A, K: Sink, L: Volume, C, B>(
     ensures sink_fault { SinkFaults K.Sink devices.old.sink devices.new.sink (status_of result) }
     ensures logs_fault { VolumeFaults L.Volume Stop.Logs devices.old.logs devices.new.logs (status_of result) }
 {
-    let mut run = ScriptRun::new(
-        alloc,
-        engine,
-        &mut devices.script,
-        &mut devices.sink,
-        &mut devices.logs,
-    );
+    let mut run = ScriptRun::new(alloc, engine, devices);
     let end = run.do_lines();
     // What the borrowed devices came to is known where the run is taken apart, and not where it is dropped.
     let ScriptRun {
@@ -58,26 +52,22 @@ pub(crate) fn do_script<S: Source, A, K: Sink, L: Volume, C, B>(
         engine: _engine,
         reader: _reader,
         line: _line,
-        script: _script,
-        sink: _sink,
-        logs: _logs,
+        devices: _devices,
     } = run;
     end
 }
 
 // A script that is being done on an open database.
-struct ScriptRun<'a, S, K, L> {
+struct ScriptRun<'a, S, A, K, L, C, B> {
     alloc: Global,
     engine: Engine,
     reader: LineReader,
     line: LineBuf,
-    script: &'a mut S,
-    sink: &'a mut K,
-    logs: &'a mut L,
+    devices: &'a mut Devices<S, A, K, L, C, B>,
 }
 
-impl<'a, S: Source, K: Sink, L: Volume> ScriptRun<'a, S, K, L> {
-    ghost use Rattle.tt_run.specs.Devices.{SourceFaults, SourceRose, SinkFaults, SinkRose, VolumeFaults, VolumeRose};
+impl<'a, S: Source, A, K: Sink, L: Volume, C, B> ScriptRun<'a, S, A, K, L, C, B> {
+    ghost use Rattle.tt_run.specs.Devices.{KeepsRest, SourceFaults, SourceRose, SinkFaults, SinkRose, VolumeFaults, VolumeRose};
     ghost use Rattle.tt_run.specs.RunEnd.{status_of};
     ghost use Rattle.tt_run.specs.ScriptRun.{DoesLine, DoesLines, EndsScript, EndsWith, IsAtStart, IsEnd, IsLine, IsReady, IsRunEnd, KeepsReferences, MakesRound, OnlyLogs, OnlyScript, OnlySink, PutsReply, ReadsNext, WritesRound, round};
     ghost use Rattle.tt_run.specs.declared.status.Status.TheVariants.{ScriptFault, SinkFault, VolumeFault};
@@ -87,16 +77,10 @@ impl<'a, S: Source, K: Sink, L: Volume> ScriptRun<'a, S, K, L> {
     fn new(
         alloc: Global,
         engine: Engine,
-        script: &'a mut S,
-        sink: &'a mut K,
-        logs: &'a mut L,
-    ) -> ScriptRun<'a, S, K, L>
-        ensures same_script { result.script.ghost_name ≡ script.entry.ghost_name }
-        ensures same_sink { result.sink.ghost_name ≡ sink.entry.ghost_name }
-        ensures same_logs { result.logs.ghost_name ≡ logs.entry.ghost_name }
-        ensures script { result.script.now ≡ script.old }
-        ensures sink { result.sink.now ≡ sink.old }
-        ensures logs { result.logs.now ≡ logs.old }
+        devices: &'a mut Devices<S, A, K, L, C, B>,
+    ) -> ScriptRun<'a, S, A, K, L, C, B>
+        ensures same_devices { result.devices.ghost_name ≡ devices.entry.ghost_name }
+        ensures devices { result.devices.now ≡ devices.old }
         ensures engine { result.engine ≡ engine }
         ensures start { IsAtStart result.reader }
     {
@@ -105,9 +89,7 @@ impl<'a, S: Source, K: Sink, L: Volume> ScriptRun<'a, S, K, L> {
             engine,
             reader: LineReader::new(),
             line: LineBuf::new(),
-            script,
-            sink,
-            logs,
+            devices,
         }
     }
 
@@ -117,12 +99,11 @@ impl<'a, S: Source, K: Sink, L: Volume> ScriptRun<'a, S, K, L> {
         requires start { IsAtStart self.old.reader }
         ensures ran { DoesLines S.Source K.Sink L.Volume self.old self.new result }
         ensures ends { IsRunEnd result }
-        ensures same_script { self.new.script.ghost_name ≡ self.old.script.ghost_name }
-        ensures same_sink { self.new.sink.ghost_name ≡ self.old.sink.ghost_name }
-        ensures same_logs { self.new.logs.ghost_name ≡ self.old.logs.ghost_name }
-        ensures script_fault { SourceFaults S.Source ScriptFault self.old.script.now self.new.script.now (status_of result) }
-        ensures sink_fault { SinkFaults K.Sink self.old.sink.now self.new.sink.now (status_of result) }
-        ensures logs_fault { VolumeFaults L.Volume Logs self.old.logs.now self.new.logs.now (status_of result) }
+        ensures same_devices { self.new.devices.ghost_name ≡ self.old.devices.ghost_name }
+        ensures rest { KeepsRest self.old.devices.now self.new.devices.now }
+        ensures script_fault { SourceFaults S.Source ScriptFault self.old.devices.now.script self.new.devices.now.script (status_of result) }
+        ensures sink_fault { SinkFaults K.Sink self.old.devices.now.sink self.new.devices.now.sink (status_of result) }
+        ensures logs_fault { VolumeFaults L.Volume Logs self.old.devices.now.logs self.new.devices.now.logs (status_of result) }
     {
         'lines: loop {
             match self.do_line() {
@@ -140,9 +121,10 @@ impl<'a, S: Source, K: Sink, L: Volume> ScriptRun<'a, S, K, L> {
         ensures fewer { IfNone result (bytes_to_come self.new.reader < bytes_to_come self.old.reader) }
         ensures ends { IfSome result IsRunEnd }
         ensures references { KeepsReferences self.old self.new }
-        ensures script_fault { SourceRose S.Source (EndsWith ScriptFault result) self.old.script.now self.new.script.now }
-        ensures sink_fault { SinkRose K.Sink (EndsWith SinkFault result) self.old.sink.now self.new.sink.now }
-        ensures logs_fault { VolumeRose L.Volume (EndsWith (VolumeFault Logs) result) self.old.logs.now self.new.logs.now }
+        ensures rest { KeepsRest self.old.devices.now self.new.devices.now }
+        ensures script_fault { SourceRose S.Source (EndsWith ScriptFault result) self.old.devices.now.script self.new.devices.now.script }
+        ensures sink_fault { SinkRose K.Sink (EndsWith SinkFault result) self.old.devices.now.sink self.new.devices.now.sink }
+        ensures logs_fault { VolumeRose L.Volume (EndsWith (VolumeFault Logs) result) self.old.devices.now.logs self.new.devices.now.logs }
     {
         let request = match self.next_line() {
             Ok(NextLine::Asks(request)) => request,
@@ -161,9 +143,9 @@ impl<'a, S: Source, K: Sink, L: Volume> ScriptRun<'a, S, K, L> {
         ensures fewer { IfOk result (λ next. IsLine next → bytes_to_come self.new.reader < bytes_to_come self.old.reader) }
         ensures rest { OnlyScript self.old self.new }
         ensures references { KeepsReferences self.old self.new }
-        ensures cause { HasCause S.exact (S.faults self.old.script.now) (S.faults self.new.script.now) result }
+        ensures cause { HasCause S.exact (S.faults self.old.devices.now.script) (S.faults self.new.devices.now.script) result }
     {
-        match self.reader.next(self.script, &mut self.line) {
+        match self.reader.next(&mut self.devices.script, &mut self.line) {
             Ok(LineRead::Line) => Ok(match read_request(self.alloc, self.line.line()) {
                 Some(request) => NextLine::Asks(request),
                 None => NextLine::Skipped,
@@ -182,9 +164,9 @@ impl<'a, S: Source, K: Sink, L: Volume> ScriptRun<'a, S, K, L> {
         ensures given { IfSome result.reply IsReplyInUse }
         ensures rest { OnlyLogs self.old self.new }
         ensures references { KeepsReferences self.old self.new }
-        ensures fault { VolumeRose L.Volume (result.stop ≡ Some Logs) self.old.logs.now self.new.logs.now }
+        ensures fault { VolumeRose L.Volume (result.stop ≡ Some Logs) self.old.devices.now.logs self.new.devices.now.logs }
     {
-        match self.engine.step(self.alloc, self.logs, request) {
+        match self.engine.step(self.alloc, &mut self.devices.logs, request) {
             Ok(reply) => Round {
                 reply: Some(reply),
                 stop: None,
@@ -199,10 +181,10 @@ impl<'a, S: Source, K: Sink, L: Volume> ScriptRun<'a, S, K, L> {
     // Writes the reply of a round; answers how the run ends where it ends with it.
     fn write_round(&mut self, round: Round) -> Option<RunEnd>
         requires { IfSome round.reply IsReplyInUse }
-        ensures written { WritesRound K.Sink round self.old.sink.now self.new.sink.now result }
+        ensures written { WritesRound K.Sink round self.old.devices.now.sink self.new.devices.now.sink result }
         ensures rest { OnlySink self.old self.new }
         ensures references { KeepsReferences self.old self.new }
-        ensures fault { SinkRose K.Sink (EndsWith SinkFault result) self.old.sink.now self.new.sink.now }
+        ensures fault { SinkRose K.Sink (EndsWith SinkFault result) self.old.devices.now.sink self.new.devices.now.sink }
     {
         let Round { reply, stop } = round;
         match stop {
@@ -214,10 +196,10 @@ impl<'a, S: Source, K: Sink, L: Volume> ScriptRun<'a, S, K, L> {
     // Writes the reply of a line that was stopped, if it has one. Where the sink fails, too, the run ends with the sink.
     fn write_stopped(&mut self, reply: Option<Reply>, stop: Stop) -> RunEnd
         requires { IfSome reply IsReplyInUse }
-        ensures written { WritesRound K.Sink (round reply (Some stop)) self.old.sink.now self.new.sink.now (Some result) }
+        ensures written { WritesRound K.Sink (round reply (Some stop)) self.old.devices.now.sink self.new.devices.now.sink (Some result) }
         ensures rest { OnlySink self.old self.new }
         ensures references { KeepsReferences self.old self.new }
-        ensures fault { SinkRose K.Sink (EndsWith SinkFault (Some result)) self.old.sink.now self.new.sink.now }
+        ensures fault { SinkRose K.Sink (EndsWith SinkFault (Some result)) self.old.devices.now.sink self.new.devices.now.sink }
     {
         let reply = match reply {
             Some(reply) => reply,
@@ -235,10 +217,10 @@ impl<'a, S: Source, K: Sink, L: Volume> ScriptRun<'a, S, K, L> {
     // Writes the reply of a line that wasn't stopped.
     fn write_reply(&mut self, reply: Option<Reply>) -> Option<RunEnd>
         requires { IfSome reply IsReplyInUse }
-        ensures written { WritesRound K.Sink (round reply None) self.old.sink.now self.new.sink.now result }
+        ensures written { WritesRound K.Sink (round reply None) self.old.devices.now.sink self.new.devices.now.sink result }
         ensures rest { OnlySink self.old self.new }
         ensures references { KeepsReferences self.old self.new }
-        ensures fault { SinkRose K.Sink (EndsWith SinkFault result) self.old.sink.now self.new.sink.now }
+        ensures fault { SinkRose K.Sink (EndsWith SinkFault result) self.old.devices.now.sink self.new.devices.now.sink }
     {
         let reply = match reply {
             Some(reply) => reply,
@@ -253,13 +235,13 @@ impl<'a, S: Source, K: Sink, L: Volume> ScriptRun<'a, S, K, L> {
     // Writes the text of a reply.
     fn put_reply(&mut self, reply: &Reply) -> Result<(), Failed>
         requires { IsReplyInUse reply.now }
-        ensures written { PutsReply K.Sink reply.now self.old.sink.now self.new.sink.now result }
+        ensures written { PutsReply K.Sink reply.now self.old.devices.now.sink self.new.devices.now.sink result }
         ensures rest { OnlySink self.old self.new }
         ensures references { KeepsReferences self.old self.new }
-        ensures cause { HasCause K.exact (K.faults self.old.sink.now) (K.faults self.new.sink.now) result }
+        ensures cause { HasCause K.exact (K.faults self.old.devices.now.sink) (K.faults self.new.devices.now.sink) result }
     {
         let text = reply_text(reply);
-        self.sink.put(text.as_slice())
+        self.devices.sink.put(text.as_slice())
     }
 
     // Ends a run at the end of its script: the log is forced.
@@ -269,9 +251,9 @@ impl<'a, S: Source, K: Sink, L: Volume> ScriptRun<'a, S, K, L> {
         ensures ends { IsEnd result }
         ensures rest { OnlyLogs self.old self.new }
         ensures references { KeepsReferences self.old self.new }
-        ensures fault { VolumeRose L.Volume (status_of result ≡ VolumeFault Logs) self.old.logs.now self.new.logs.now }
+        ensures fault { VolumeRose L.Volume (status_of result ≡ VolumeFault Logs) self.old.devices.now.logs self.new.devices.now.logs }
     {
-        match self.engine.end(self.logs) {
+        match self.engine.end(&mut self.devices.logs) {
             Ok(()) => RunEnd::AtEnd { stop: None },
             Err(_) => RunEnd::AtEnd {
                 stop: Some(Stop::Logs),

@@ -3,7 +3,7 @@ use Rattle.tt_disk.specs.declared.volume.Failed.{Failed}
 use Rattle.tt_run.specs.declared.script_run.NextLine.{NextLine}
 use Rattle.tt_run.specs.declared.script_run.NextLine.TheVariants.{Asks, Skipped, End, ScriptTooLong}
 use Rattle.tt_run.specs.ScriptRun.{ReadsNext}
-use Rattle.tt_run.proofs.LineLemmas.{line_done, line_logs, line_ready, line_script, round_ends, round_run_end, script_ends, script_failed, script_over, skipped_done}
+use Rattle.tt_run.proofs.LineLemmas.{line_done, line_logs, line_ready, line_script, rest_then, round_ends, round_run_end, script_ends, script_failed, script_over, skipped_done}
 use Rattle.tt_run.proofs.script_run.ScriptRun.do_line.Goals as goal
 
 pub returns-in-Ok-Skipped-clause-step : goal.returns-in-Ok-Skipped-clause-step
@@ -50,3 +50,9 @@ pub returns-clause-logs_fault : goal.returns-clause-logs_fault
 returns-clause-logs_fault g c =
     line_logs g.L.Volume c.args.self.now c.next_line.new.self c.round_of-round.new.self c.write_round.new.self c.round_of-round.result c.write_round.result c.next_line.ensures.rest c.round_of-round.ensures.fault c.write_round.ensures.rest
     (round_ends g.K.Sink g.L.Volume c.in-Ok-Asks.request c.next_line.new.self c.round_of-round.new.self c.write_round.new.self c.round_of-round.result c.write_round.result c.round_of-round.ensures.made c.write_round.ensures.written)
+
+pub returns-clause-rest : goal.returns-clause-rest
+returns-clause-rest g c = rest_then _ _ _ c.next_line.ensures.rest.rest (rest_then _ _ _ c.round_of-round.ensures.rest.rest c.write_round.ensures.rest.rest)
+
+pub returns-in-Ok-End-clause-rest : goal.returns-in-Ok-End-clause-rest
+returns-in-Ok-End-clause-rest g c = rest_then _ _ _ c.next_line.ensures.rest.rest c.end_script.ensures.rest.rest
