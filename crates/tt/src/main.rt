@@ -12,7 +12,7 @@ use std::thread::Threads;
 use std::{env, fs, io};
 use tt_disk::DirVolume;
 use tt_flow::{ReadSource, WriteSink};
-use tt_run::{Status, run};
+use tt_run::{Devices, Status, run};
 
 fn main(rt: HostRuntime) -> ExitCode {
     let status = match prepare(&rt) {
@@ -70,23 +70,15 @@ fn run_in_folder<R: Threads>(
         Some(word) if !word.is_empty() => word.as_str(),
         _ => ".",
     };
-    let mut logs = volume(host, alloc, folder, "logs")?;
-    let mut images = volume(host, alloc, folder, "images")?;
-    let mut backups = volume(host, alloc, folder, "backups")?;
-    let mut attributes = ReadSource::new(SettingsFile::open(&host, alloc, folder)?);
-    let mut script = ReadSource::new(host.stdin());
-    let mut sink = WriteSink::new(host.stdout());
-    Ok(run(
-        rt,
-        alloc,
-        words,
-        &mut script,
-        &mut attributes,
-        &mut sink,
-        &mut logs,
-        &mut images,
-        &mut backups,
-    ))
+    let mut devices = Devices {
+        script: ReadSource::new(host.stdin()),
+        attributes: ReadSource::new(SettingsFile::open(&host, alloc, folder)?),
+        sink: WriteSink::new(host.stdout()),
+        logs: volume(host, alloc, folder, "logs")?,
+        images: volume(host, alloc, folder, "images")?,
+        backups: volume(host, alloc, folder, "backups")?,
+    };
+    Ok(run(rt, alloc, words, &mut devices))
 }
 
 fn volume(

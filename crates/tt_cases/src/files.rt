@@ -57,6 +57,15 @@ impl FailingCalls {
 }
 
 impl Volumes {
+    /// Volumes with no files, of which no call fails.
+    pub fn empty(alloc: Global) -> Volumes {
+        Volumes {
+            logs: MemVolume::new(alloc),
+            images: MemVolume::new(alloc),
+            backups: MemVolume::new(alloc),
+        }
+    }
+
     /// Volumes with no files.
     pub fn new(alloc: Global, failing: &FailingCalls) -> Result<Volumes, AllocError> {
         Ok(Volumes {

@@ -5,8 +5,10 @@ use crate::model::{Device, FileChange, Run, Step};
 use crate::wanted::{Ended, check_failed, check_outcomes, failed_status};
 use crate::ways::Way;
 use std::alloc::{AllocError, Global};
+use std::mem;
 use std::thread::Threads;
 use tt_flow::{MemSink, MemSource};
+use tt_run::Devices;
 
 /// Does a case in each of its ways; adds to the text how the way went that isn't as it is wanted.
 pub fn do_case<R: Threads>(
@@ -259,26 +261,41 @@ impl Scene {
     // Does a run, with the calls of the script, the attributes and the sink failing that are to fail.
     fn run_once<R: Threads>(&mut self, rt: &R, run: &Run, call: u64) -> Result<Ended, AllocError> {
         let alloc = self.alloc;
-        let mut script = MemSource::new(
+        let script = MemSource::new(
             run.script.to_vec(alloc)?,
             stream_calls(alloc, run, Device::Script, call)?,
         );
-        let mut attributes = MemSource::new(
+        let attributes = MemSource::new(
             run.attributes.to_vec(alloc)?,
             stream_calls(alloc, run, Device::Attributes, call)?,
         );
-        let mut sink = MemSink::new(alloc, stream_calls(alloc, run, Device::Sink, call)?);
-        let status = tt_run::run(
-            rt,
-            alloc,
-            &run.words,
-            &mut script,
-            &mut attributes,
-            &mut sink,
-            &mut self.volumes.logs,
-            &mut self.volumes.images,
-            &mut self.volumes.backups,
-        );
+        let sink = MemSink::new(alloc, stream_calls(alloc, run, Device::Sink, call)?);
+        let Volumes {
+            logs,
+            images,
+            backups,
+        } = mem::replace(&mut self.volumes, Volumes::empty(alloc));
+        let mut devices = Devices {
+            script,
+            attributes,
+            sink,
+            logs,
+            images,
+            backups,
+        };
+        let status = tt_run::run(rt, alloc, &run.words, &mut devices);
+        let Devices {
+            sink,
+            logs,
+            images,
+            backups,
+            ..
+        } = devices;
+        self.volumes = Volumes {
+            logs,
+            images,
+            backups,
+        };
         let exit = status.exit();
         let ended = Ended {
             output: sink.bytes().to_vec(alloc)?,

@@ -17,7 +17,7 @@ use Rattle.tt_model.specs.Works.{SameLog, performed}
 use Rattle.tt_recover.specs.Opening.{opened_from, opened_of, newest_first, opening}
 use Rattle.tt_journal.specs.LogTrail.{IsQuiet, LeavesPrefix}
 use Rattle.tt_journal.specs.LineLaws.{breaks_same, writes_same}
-use Rattle.tt_journal.specs.Journal.{Breaks, CanFollow, Outcomes, Writes, listed}
+use Rattle.tt_journal.specs.Journal.{Breaks, CanFollow, Writes, listed}
 use Rattle.tt_journal.proofs.TrailLemmas.{forced_read, left_forced}
 use Rattle.tt_engine.specs.declared.engine.Engine.{Engine}
 use Rattle.tt_engine.specs.declared.memory.Decided.{Decided}

@@ -8,7 +8,7 @@ use Rattle.tt_set.specs.declared.settings.Settings.{Settings}
 use Rattle.tt_log.specs.declared.log.Log.{Log}
 use Rattle.tt_log.specs.declared.refusal.LogRefusal.{LogRefusal}
 use Rattle.tt_log.specs.Walk.{LogContents as Read, log_of, with_more}
-use Rattle.tt_disk.specs.Volume.{Keeps, Files}
+use Rattle.tt_disk.specs.Volume.{Keeps, Files, Outcomes}
 use Rattle.tt_log.specs.Log.{IsOpen, CrashLeavesForced, CrashLeavesLog, entries_in, forced_of, unforced, write_position_of, first_file_of, force_position_of, file_size_of, buffer_size_of}
 use Rattle.tt_model.specs.Trail.{Trail, Placed, oldest, trail_end}
 use Rattle.tt_model.specs.Committed.{Cells, committed, is_full, no_cells}
@@ -51,7 +51,7 @@ use Rattle.tt_engine.specs.OpeningLaws.{found_is, read_is, same_ok}
 use Rattle.tt_engine.proofs.PlaceLemmas.{any_here, any_found, any_row, in_cell, same_test}
 use Rattle.tt_engine.proofs.CommitLemmas.{none_filled}
 use Rattle.tt_engine.proofs.FoundLemmas.{found_key, full_below, shown_full, shown_key}
-use Rattle.tt_journal.proofs.TrailLemmas.{Outcomes, left_forced, oldest_all, oldest_more}
+use Rattle.tt_journal.proofs.TrailLemmas.{left_forced, oldest_all, oldest_more}
 
 -- ---- the state before the Mark, and behind it
 

@@ -20,7 +20,7 @@ use Rattle.tt_recover.specs.Recovery.{IsRecovered}
 use Rattle.tt_recover.specs.Replay.{AreInOrder}
 use Rattle.tt_journal.specs.FileLaws.{changes_none, keeps_changes}
 use Rattle.tt_journal.specs.LogTrail.{HasTrail}
-use Rattle.tt_journal.specs.Journal.{Breaks, Outcomes, Writes}
+use Rattle.tt_journal.specs.Journal.{Breaks, Writes}
 use Rattle.tt_engine.specs.declared.engine.Engine.{Engine}
 use Rattle.tt_engine.specs.declared.refusal.OpenRefusal.{OpenRefusal}
 use Rattle.tt_engine.specs.declared.refusal.OpenRefusal.TheVariants.{NoDatabase, Damaged, LogOut, Failed, NoMemory}

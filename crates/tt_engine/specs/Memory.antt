@@ -16,7 +16,7 @@ use Rattle.tt_engine.specs.declared.memory.Decided.{Decided}
 use Rattle.tt_engine.specs.declared.memory.Memory.{Memory}
 use Rattle.tt_model.specs.Entries.{IsPlain}
 use Rattle.tt_model.specs.Works.{SameLog, performed}
-use Rattle.tt_journal.specs.Journal.{Breaks, Outcomes, Writes, listed}
+use Rattle.tt_journal.specs.Journal.{Breaks, Writes, listed}
 use Rattle.tt_log.specs.Log.{IsOpen, CrashLeavesForced}
 use Rattle.tt_engine.specs.declared.rows.Rows.{Rows}
 use Rattle.tt_disk.specs.declared.volume.Failed.{Failed}

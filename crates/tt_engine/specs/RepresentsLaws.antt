@@ -17,7 +17,7 @@ use Rattle.tt_model.specs.Works.{SameLog, performed}
 use Rattle.tt_recover.specs.Opening.{opened_from, opened_of, newest_first, opening}
 use Rattle.tt_journal.specs.LogTrail.{IsQuiet, LeavesPrefix}
 use Rattle.tt_journal.specs.LineLaws.{breaks_same, writes_same}
-use Rattle.tt_journal.specs.Journal.{Breaks, CanFollow, Outcomes, Writes, listed}
+use Rattle.tt_journal.specs.Journal.{Breaks, CanFollow, Writes, listed}
 use Rattle.tt_journal.proofs.TrailLemmas.{forced_read, left_forced}
 use Rattle.tt_engine.specs.declared.engine.Engine.{Engine}
 use Rattle.tt_engine.specs.declared.memory.Decided.{Decided}
@@ -29,7 +29,7 @@ use Rattle.tt_engine.specs.OpeningLaws.{reads_settled}
 use Rattle.tt_engine.specs.PrefixLaws.{prefix_opens, stands_for}
 use Rattle.tt_engine.specs.Prefixes.{IsBehindFound, LeavesOpening, LogsAreSettled, OpensForced}
 use Rattle.tt_engine.specs.Request.{Answers, answer, takes_memory}
-use Rattle.tt_disk.specs.Volume.{Files}
+use Rattle.tt_disk.specs.Volume.{Files, Outcomes}
 
 -- The engine is behind what was found.
 pub behind_found : (m : Memory) (s : State) → InMemory m s → IsBehindFound s

@@ -16,9 +16,6 @@ use Rattle.tt_journal.specs.LogTrail.{ChangesFrom, HasTrail, IsQuiet, LeavesPref
 use Rattle.tt_journal.specs.Onward.{IsOnward}
 use Rattle.tt_disk.specs.declared.volume.Volume.{Ghosts}
 
-abbrev pub Outcomes : Type 1
-Outcomes = Name → Option (List ℕ) → Type 0
-
 -- The log, which stood for a state, stands for a later one. A crash leaves just what is forced, if it did before. Where nothing more
 -- is forced and no file begins, the volume is as it was; and no file changes but log files from the current one on.
 pub record Writes {V : Type 0} (g : Ghosts V) (log : Log) (old : V) (s : State) (log' : Log) (new : V) (after : State) : Type 0 where

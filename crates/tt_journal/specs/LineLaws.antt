@@ -13,7 +13,7 @@ use Rattle.tt_model.specs.WholeRuns.{Each}
 use Rattle.tt_model.specs.Works.{Fits, SameLog, Work, all_performed, is_blocking_line, performed, work_of_end, works_of}
 use Rattle.tt_journal.specs.LogTrail.{HasEnds}
 use Rattle.tt_journal.specs.SameLaws.{same_is_onward, same_is_quiet, same_prefix, same_stands}
-use Rattle.tt_journal.specs.Journal.{Breaks, CanFollow, Outcomes, Writes}
+use Rattle.tt_journal.specs.Journal.{Breaks, CanFollow, Writes}
 use Rattle.tt_model.proofs.Theorems.{lines_are_works}
 use Rattle.tt_disk.specs.declared.volume.Volume.{Ghosts}
 use Rattle.tt_disk.specs.Volume.{Files}

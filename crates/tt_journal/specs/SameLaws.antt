@@ -5,8 +5,7 @@ use Rattle.tt_model.specs.State.{State}
 use Rattle.tt_model.specs.Works.{SameLog}
 use Rattle.tt_journal.specs.LogTrail.{HasEnds, HasTrail, IsQuiet, LeavesPrefix}
 use Rattle.tt_journal.specs.Onward.{IsOnward}
-use Rattle.tt_journal.specs.Journal.{Outcomes}
-use Rattle.tt_disk.specs.Volume.{Files}
+use Rattle.tt_disk.specs.Volume.{Files, Outcomes}
 
 -- one state's log, and what another keeps beside it
 abbrev laid : State → State → State

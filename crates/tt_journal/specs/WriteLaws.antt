@@ -16,9 +16,9 @@ use Rattle.tt_model.specs.Works.{with_entries}
 use Rattle.tt_journal.specs.FileLaws.{changes_none, changes_then}
 use Rattle.tt_journal.specs.LogTrail.{FindsFirst, HasTrail, LeavesPrefix, end_of_first}
 use Rattle.tt_journal.specs.Onward.{IsOnward, onward_then, quiet_parts, same_onward}
-use Rattle.tt_journal.specs.Journal.{Breaks, CanFollow, Outcomes, Writes, WrittenSoFar}
+use Rattle.tt_journal.specs.Journal.{Breaks, CanFollow, Writes, WrittenSoFar}
 use Rattle.tt_disk.specs.declared.volume.Volume.{Ghosts}
-use Rattle.tt_disk.specs.Volume.{Files}
+use Rattle.tt_disk.specs.Volume.{Files, Outcomes}
 
 -- ---- one after another
 

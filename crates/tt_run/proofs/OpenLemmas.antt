@@ -2,7 +2,7 @@
 use Rattle.std.proofs.Common.{◌≡◌, ◌⊎◌, inl, inr, ◌^◌, ◌<◌, ◌≤◌, ◌∙◌, ℕ, [], List, length, Option, Some, None, Result, Ok, Err, refl, sym, ap, ap₂, subst, arith}
 use Rattle.std.specs.Prelude.{IfSome, IsSome, option_map, take}
 use Rattle.tt_flow.specs.Script.{ended_lines, script_most}
-use Rattle.tt_disk.specs.Volume.{Keeps, size_of, Files}
+use Rattle.tt_disk.specs.Volume.{Keeps, size_of, Files, Outcomes}
 use Rattle.tt_disk.specs.declared.volume.Name.TheVariants.{Log as LogFile}
 use Rattle.tt_gate.specs.GateFile.{CrashLeavesAtMost}
 use Rattle.tt_value.specs.declared.reply.Stop.TheVariants.{Logs}
@@ -23,12 +23,21 @@ use Rattle.tt_journal.specs.LogTrail.{ChangesFrom}
 use Rattle.tt_engine.specs.Starts.{begun_over, database, opened_in}
 use Rattle.tt_model.specs.Run.{begun}
 use Rattle.tt_engine.specs.declared.refusal.OpenRefusal.{OpenRefusal}
+use Rattle.tt_flow.specs.declared.stream.Sink.{Ghosts as SinkGhosts}
+use Rattle.tt_flow.specs.declared.stream.Source.{Ghosts as SourceGhosts}
+use Rattle.tt_value.specs.declared.reply.Reply.{Reply}
+use Rattle.tt_engine.specs.declared.request.Request.{Request}
+use Rattle.tt_run.specs.declared.devices.Devices.{Devices}
+use Rattle.tt_run.specs.declared.run_end.RunEnd.{RunEnd}
+use Rattle.tt_run.specs.declared.run_end.RunEnd.TheVariants.{AtEnd, AtLine, AtSink, AtScript, ScriptOver}
 use Rattle.tt_run.specs.declared.status.Status.{Status}
-use Rattle.tt_run.specs.declared.status.Status.TheVariants.{Done, ScriptFault, AttributesFault, SinkFault, VolumeFault, NoMemory, Usage, Exists, BadAttribute, LogOut, ScriptTooLong}
-use Rattle.tt_run.specs.Openings.{EndedEarly, HasNewDatabase, IsBeforeLines, IsCreated, IsOpened, IsScriptRunEnd, LeavesNoOther, LeavesNoLog, mark_place, new_database}
-use Rattle.tt_run.specs.Loops.{IsRunEnd}
-use Rattle.tt_run.specs.Run.{IsRun, IsRunFrom, streams}
-use Rattle.tt_run.proofs.RunLemmas.{Outcomes, run_changes, run_still, run_under}
+use Rattle.tt_run.specs.declared.status.Status.TheVariants.{Done, ScriptFault, SinkFault, VolumeFault, NoMemory, LogOut}
+use Rattle.tt_run.specs.Openings.{HasNewDatabase, IsBeforeLines, IsCreated, IsDoneOrWanting, IsOpened, IsScriptRunEnd, LeavesNoOther, LeavesNoLog, mark_place, new_database}
+use Rattle.tt_run.specs.Run.{EndsIn, HasDone, IsRun, IsRunFrom, Streams, moment}
+use Rattle.tt_run.specs.RunEnd.{status_of}
+use Rattle.tt_run.specs.ScriptRun.{IsRunEnd, told_between}
+use Rattle.tt_run.specs.TopCall.{EndedEarly, RunsWith}
+use Rattle.tt_run.proofs.RunLemmas.{run_changes, run_still, run_under}
 use Rattle.tt_disk.specs.declared.volume.Volume.{Ghosts}
 
 -- a database that is refused is one whose log is damaged
@@ -95,29 +104,20 @@ no_other_made old now may may' may'' keeps short none files left found is =
 
 -- ---- how a run may end
 
--- where the Mark has no place, the status is LogOut
-pub out_before : (status : Status) (unplaced : Type 0) → IsBeforeLines status unplaced → IsBeforeLines status (status ≡ LogOut)
-out_before LogOut unplaced before = refl
-out_before Done unplaced before = absurd before
-out_before ScriptFault unplaced before = absurd before
-out_before SinkFault unplaced before = absurd before
-out_before ScriptTooLong unplaced before = absurd before
-out_before (VolumeFault stop) unplaced before = absurd before
-out_before _ unplaced before = tt
-
-opened_end : (settings : Settings) (found : Opened) (status : Status) → IsSome (mark_place settings found) → IsRunEnd status → IsOpened settings (Ok found) status
-opened_end settings found Done place ends = place
-opened_end settings found ScriptFault place ends = place
-opened_end settings found SinkFault place ends = place
-opened_end settings found ScriptTooLong place ends = place
-opened_end settings found (VolumeFault Logs) place ends = tt
+opened_end : (settings : Settings) (found : Opened) (end : RunEnd) → IsSome (mark_place settings found) → IsRunEnd end → IsOpened settings (Ok found) (status_of end)
+opened_end settings found (AtEnd None) place ends = place
+opened_end settings found (AtEnd (Some Logs)) place ends = tt
+opened_end settings found (AtLine None Logs) place ends = tt
+opened_end settings found (AtSink None) place ends = place
+opened_end settings found AtScript place ends = place
+opened_end settings found ScriptOver place ends = place
 opened_end settings found _ place ends = absurd ends
 
 -- a run whose lines have begun
-pub opened_lines : (settings : Settings) (files : Files) (found : Opened) (status : Status) → opening files ≡ Ok found → IsSome (mark_place settings found) → IsRunEnd status
-    → IsOpened settings (database files) status
-opened_lines settings files found status is place ends =
-    subst (λ (r : Result Opened OpenRefusal). IsOpened settings r status) (sym (database_found files found is)) (opened_end settings found status place ends)
+pub opened_lines : (settings : Settings) (files : Files) (found : Opened) (end : RunEnd) → opening files ≡ Ok found → IsSome (mark_place settings found) → IsRunEnd end
+    → IsOpened settings (database files) (status_of end)
+opened_lines settings files found end is place ends =
+    subst (λ (r : Result Opened OpenRefusal). IsOpened settings r (status_of end)) (sym (database_found files found is)) (opened_end settings found end place ends)
 
 pub opened_refused : (settings : Settings) (r : Result Opened OpenRefusal) (refusal : OpenRefusal) (status : Status) → r ≡ Err refusal → IsOpened settings (Err refusal) status → IsOpened settings r status
 opened_refused settings r refusal status is so = subst (λ (r : Result Opened OpenRefusal). IsOpened settings r status) (sym is) so
@@ -149,46 +149,87 @@ unfolding begun with_entry
 begun_found settings files found = refl
 
 -- a run, as it is seen from before the database was opened
-pub run_over : {V : Type 0} (g : Ghosts V) (P Q : Type 0) (script left : Option (List ℕ)) (start : State) (before after : Option (List ℕ)) (status : Status) (old opened new : V) → IsSinceOpening start → (Q → P)
+pub run_over : {V : Type 0} (g : Ghosts V) (P Q : Type 0) (told : Streams) (start : State) (end : RunEnd) (old opened new : V) → IsSinceOpening start → (Q → P)
     → (IsStill start → Keeps (g.now old) (g.now opened) (g.may old) (g.may opened)) → ChangesFrom start.found.end.file (g.now old) (g.now opened) (g.may old) (g.may opened)
-    → IsRunFrom g P (streams script left before after) (record { state = start; logs = opened }) status new → IsRun g Q (streams script left before after) start status old new
-run_over g P Q script left start before after status old opened new since settled still opening ran =
-    let under : IsRunFrom g Q (streams script left before after) (record { state = start; logs = opened }) status new = run_under g P Q script left (record { state = start; logs = opened }) before after status new settled ran in
+    → IsRunFrom g P told (moment start opened) end new → IsRun g Q told start end old new
+run_over g P Q told start end old opened new since settled still opening ran =
+    let under : IsRunFrom g Q told (moment start opened) end new = run_under g P Q told (moment start opened) end new settled ran in
     record {
       opened = opened;
       unchanged = still;
       lines = under;
-      still = run_still g Q script left start before after status old opened new since still under;
-      others = run_changes g Q script left start before after status old opened new since opening under;
+      still = run_still g Q told start end old opened new since still under;
+      others = run_changes g Q told start end old opened new since opening under;
     }
 
 none_there : (o : Option Position) → o ≡ None → IsSome o → ⊥
 none_there None none some = let bad : ⊥ = cc in bad
 none_there (Some at) none some = let bad : ⊥ = cc in bad
 
--- a run ends well where nothing failed
-pub completes : {V : Type 0} (g : Ghosts V) (told : Option (List ℕ)) (bytes : List ℕ) (left : Option (List ℕ)) (settings : Settings) (found : Opened) (start : State) (before after : Option (List ℕ)) (status : Status) (settled untouched : Type 0) (old new : V)
-    (script sink logs : Type 0) → told ≡ Some bytes → EndedEarly status settings found untouched settled (g.now old) (g.may new) ⊎ IsRun g settled (streams told left before after) start status old new → IsOpened settings (Ok found) status
-    → IsScriptRunEnd status → (status ≡ ScriptFault → script) → (status ≡ SinkFault → sink) → (status ≡ VolumeFault Logs → logs) → IsSome (mark_place settings found) → length bytes ≤ 2 ^ 30 → ¬ script → ¬ sink → ¬ logs → (status ≡ Done) ⊎ (status ≡ NoMemory)
-completes g told bytes left settings found start before after status settled untouched old new script sink logs is ran opens ends at_script at_sink at_logs place short no_script no_sink no_logs = by status ran opens ends at_script at_sink at_logs
+-- a script that isn't too long doesn't end a run as one that is
+not_over : (script : Option (List ℕ)) (bytes : List ℕ) (lines : List (Option (List ℕ))) → script ≡ Some bytes → length bytes ≤ script_most → IfSome script (λ b. (script_most < length b) × (ended_lines (take script_most b) ≡ lines)) → ⊥
+not_over script bytes lines is short over =
+    let long : (script_most < length bytes) × (ended_lines (take script_most bytes) ≡ lines) = subst (λ (o : Option (List ℕ)). IfSome o (λ b. (script_most < length b) × (ended_lines (take script_most b) ≡ lines))) is over in
+    let more = long.0 in omega (arith, more, short)
+
+-- a run that ended so is done, where nothing failed
+run_completes : (told : Streams) (bytes : List ℕ) (replies : List (Request × Reply)) (s last : State) (end : RunEnd) (status : Status) (script sink logs : Type 0) → told.script ≡ Some bytes → length bytes ≤ script_most → status ≡ status_of end
+    → HasDone told replies s last end → (status ≡ ScriptFault → script) → (status ≡ SinkFault → sink) → (status ≡ VolumeFault Logs → logs) → ¬ script → ¬ sink → ¬ logs → IsDoneOrWanting status
+run_completes told bytes replies s last end status script sink logs is short named done at_script at_sink at_logs no_script no_sink no_logs = by end named done.ends
   where
-    by : (status : Status) → EndedEarly status settings found untouched settled (g.now old) (g.may new) ⊎ IsRun g settled (streams told left before after) start status old new → IsOpened settings (Ok found) status → IsScriptRunEnd status → (status ≡ ScriptFault → script) → (status ≡ SinkFault → sink) → (status ≡ VolumeFault Logs → logs) → (status ≡ Done) ⊎ (status ≡ NoMemory)
-    by Done ran opens ends at_script at_sink at_logs = inl refl
-    by NoMemory ran opens ends at_script at_sink at_logs = inr refl
-    by ScriptFault ran opens ends at_script at_sink at_logs = absurd (no_script (at_script refl))
-    by SinkFault ran opens ends at_script at_sink at_logs = absurd (no_sink (at_sink refl))
-    by (VolumeFault Logs) ran opens ends at_script at_sink at_logs = absurd (no_logs (at_logs refl))
-    by LogOut (inl none) opens ends at_script at_sink at_logs = absurd (none_there (mark_place settings found) none place)
-    by LogOut (inr run) opens ends at_script at_sink at_logs = absurd run.lines.run.ends.0
-    by ScriptTooLong (inl early) opens ends at_script at_sink at_logs = absurd early
-    by ScriptTooLong (inr run) opens ends at_script at_sink at_logs = let long : (script_most < length bytes) × (ended_lines (take script_most bytes) ≡ run.lines.run.lines) = subst (λ (o : Option (List ℕ)). IfSome o (λ b. (script_most < length b) × (ended_lines (take script_most b) ≡ run.lines.run.lines))) is run.lines.run.ends.0 in absurd (let over = long.0 in omega (arith, over, short))
-    by _ ran opens ends at_script at_sink at_logs = absurd opens
+    by : (end : RunEnd) → status ≡ status_of end → EndsIn told.script told.left done.lines s last end → IsDoneOrWanting status
+    by (AtEnd None) named ends = inl named
+    by (AtEnd (Some Logs)) named ends = absurd (no_logs (at_logs named))
+    by (AtLine None Logs) named ends = absurd (no_logs (at_logs named))
+    by (AtSink None) named ends = absurd (no_sink (at_sink named))
+    by AtScript named ends = absurd (no_script (at_script named))
+    by ScriptOver named ends = absurd (not_over told.script bytes done.lines is short ends.0)
+    by _ named ends = absurd ends
+
+-- a run that ended before its lines had no memory, where nothing failed
+early_completes : {S A K L C B : Type 0} (g : Ghosts L) (settings : Settings) (found : Opened) (old new : Devices S A K L C B) (status : Status) (logs : Type 0) → EndedEarly g settings found old new status → (status ≡ VolumeFault Logs → logs) → IsSome (mark_place settings found) → ¬ logs → IsDoneOrWanting status
+early_completes g settings found old new status logs ended at_logs place no_logs = by status ended at_logs
+  where
+    by : (status : Status) → EndedEarly g settings found old new status → (status ≡ VolumeFault Logs → logs) → IsDoneOrWanting status
+    by NoMemory ended at_logs = inr refl
+    by LogOut ended at_logs = absurd (none_there (mark_place settings found) ended place)
+    by (VolumeFault Logs) ended at_logs = absurd (no_logs (at_logs refl))
+    by _ ended at_logs = absurd ended
+
+-- a run ends well where nothing failed
+pub completes : {S A K L C B : Type 0} (s : SourceGhosts S) (k : SinkGhosts K) (g : Ghosts L) (settings : Settings) (found : Opened) (old new : Devices S A K L C B) (status : Status) (bytes : List ℕ) (script sink logs : Type 0)
+    → RunsWith s k g settings old new status → database (g.now old.logs) ≡ Ok found → IsSome (mark_place settings found) → s.left old.script ≡ Some bytes → length bytes ≤ script_most
+    → (status ≡ ScriptFault → script) → (status ≡ SinkFault → sink) → (status ≡ VolumeFault Logs → logs) → ¬ script → ¬ sink → ¬ logs → IsDoneOrWanting status
+completes s k g settings found old new status bytes script sink logs runs is place told short at_script at_sink at_logs no_script no_sink no_logs =
+    elim (runs.ran found is) [
+      inl early ↦ early_completes g settings found old new status logs early at_logs place no_logs
+      | inr did ↦ run_completes (told_between s k old new) bytes did.run.lines.replies did.run.lines.behind.state did.run.lines.last did.end status script sink logs told short did.is did.run.lines.done at_script at_sink at_logs no_script no_sink no_logs
+    ]
 
 -- a run whose lines were begun didn't end before them
-pub not_before_lines : (status : Status) (unplaced : Type 0) → IsRunEnd status → IsBeforeLines status unplaced → ⊥
-not_before_lines Done unplaced ends before = before
-not_before_lines ScriptTooLong unplaced ends before = before
-not_before_lines ScriptFault unplaced ends before = before
-not_before_lines SinkFault unplaced ends before = before
-not_before_lines (VolumeFault stop) unplaced ends before = before
-not_before_lines _ unplaced ends before = ends
+pub not_before_lines : (end : RunEnd) → IsRunEnd end → IsBeforeLines (status_of end) → ⊥
+not_before_lines (AtEnd None) ends before = before
+not_before_lines (AtEnd (Some Logs)) ends before = before
+not_before_lines (AtLine None Logs) ends before = before
+not_before_lines (AtSink None) ends before = before
+not_before_lines AtScript ends before = before
+not_before_lines ScriptOver ends before = before
+not_before_lines _ ends before = ends
+
+pub not_out : (end : RunEnd) → IsRunEnd end → status_of end ≡ LogOut → ⊥
+not_out (AtEnd None) ends out = let bad : ⊥ = cc in bad
+not_out (AtEnd (Some Logs)) ends out = let bad : ⊥ = cc in bad
+not_out (AtLine None Logs) ends out = let bad : ⊥ = cc in bad
+not_out (AtSink None) ends out = let bad : ⊥ = cc in bad
+not_out AtScript ends out = let bad : ⊥ = cc in bad
+not_out ScriptOver ends out = let bad : ⊥ = cc in bad
+not_out _ ends out = ends
+
+pub script_run_end : (end : RunEnd) → IsRunEnd end → IsScriptRunEnd (status_of end)
+script_run_end (AtEnd None) ends = tt
+script_run_end (AtEnd (Some Logs)) ends = tt
+script_run_end (AtLine None Logs) ends = tt
+script_run_end (AtSink None) ends = tt
+script_run_end AtScript ends = tt
+script_run_end ScriptOver ends = tt
+script_run_end _ ends = absurd ends

@@ -1,5 +1,7 @@
 -- What the attributes of a database lead to.
-use Rattle.std.specs.Prelude.{◌≡◌, ◌⊎◌, ℕ, List, Option, Some, None, IfSome, Result, Ok, Err}
+use Rattle.std.specs.Prelude.{◌≡◌, ◌⊎◌, ◌+◌, ℕ, List, [], ◌++◌, length, take, Option, Some, None, IfOk, IfSome, Result, Ok, Err}
+use Rattle.tt_disk.specs.declared.volume.Failed.{Failed}
+use Rattle.tt_flow.specs.declared.stream.Source.{Ghosts as SourceGhosts}
 use Rattle.tt_set.specs.Settings.{AreInRange, Says}
 use Rattle.tt_set.specs.declared.settings.Settings.{Settings}
 use Rattle.tt_run.specs.declared.status.Status.{Status}
@@ -58,3 +60,18 @@ IsBadSo text _ = Unit {0}
 -- where this name isn't right, the run ends so, unless the attributes couldn't be read
 abbrev pub IsRefusedFor : List ℕ → Status → Type 0
 IsRefusedFor name status = (status ≡ BadAttribute name) ⊎ ((status ≡ AttributesFault) ⊎ (status ≡ NoMemory))
+
+-- ---- the read
+
+-- this is so of the text that is left of a source, where it tells it
+abbrev pub OfText : {A : Type 0} → SourceGhosts A → A → (List ℕ → Type 0) → Type 0
+OfText a source P = (text : List ℕ) → a.left source ≡ Some text → P text
+
+-- a buffer's front was filled with what a source gave, as far as there is room
+abbrev pub FillsFront : {A : Type 0} → SourceGhosts A → A → List ℕ → List ℕ → Result ℕ Failed → Type 0
+FillsFront a source old new result = OfText a source (λ text. IfOk result (λ n. take n new ≡ take (length old) text))
+
+-- bytes were taken from a source into a buffer behind so many; none at the end of input alone
+abbrev pub TakesBehind : {A : Type 0} → SourceGhosts A → ℕ → A → A → List ℕ → List ℕ → Result ℕ Failed → Type 0
+TakesBehind a used source source' old new result =
+    OfText a source (λ left. IfOk result (λ n. (rest : List ℕ) × (a.left source' ≡ Some rest) × (take (used + n) new ++ rest ≡ take used old ++ left) × (n ≡ 0 → rest ≡ [])))

@@ -1,10 +1,12 @@
 pub mod Attributes
 pub mod ChainLaws
-pub mod Loops
+pub mod Devices
 pub mod Openings
 pub mod Reply
 pub mod Request
 pub mod Run
+pub mod RunEnd
+pub mod ScriptRun
 pub mod Status
 pub mod TopCall
 pub mod Words

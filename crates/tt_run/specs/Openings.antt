@@ -13,8 +13,8 @@ use Rattle.tt_set.specs.declared.settings.Settings.{Settings}
 use Rattle.tt_log.specs.Log.{MayLeave}
 use Rattle.tt_model.specs.Opened.{Opened}
 use Rattle.tt_recover.specs.Opening.{opened_from, opening}
-use Rattle.tt_engine.specs.Prefixes.{LeavesOpening, LogsAreSettled}
-use Rattle.tt_engine.specs.Starts.{begun_over, database}
+use Rattle.tt_engine.specs.Prefixes.{LogsAreSettled}
+use Rattle.tt_engine.specs.Starts.{database}
 use Rattle.tt_engine.specs.declared.refusal.OpenRefusal.{OpenRefusal}
 use Rattle.tt_engine.specs.declared.refusal.OpenRefusal.TheVariants as refusal
 use Rattle.tt_run.specs.Attributes.{AreSettings}
@@ -23,17 +23,27 @@ use Rattle.tt_run.specs.declared.status.Status.TheVariants.{Done, ScriptFault, A
 
 -- ---- statuses
 
--- statuses that come before any line was read or any reply written, and before any log file changed; LogOut where this is so
-abbrev pub IsBeforeLines : Status → Type 0 → Type 0
-IsBeforeLines AttributesFault unplaced = Unit {0}
-IsBeforeLines NoMemory unplaced = Unit {0}
-IsBeforeLines Usage unplaced = Unit {0}
-IsBeforeLines (Damaged damage) unplaced = Unit {0}
-IsBeforeLines Exists unplaced = Unit {0}
-IsBeforeLines NoDatabase unplaced = Unit {0}
-IsBeforeLines (BadAttribute name) unplaced = Unit {0}
-IsBeforeLines LogOut unplaced = unplaced
-IsBeforeLines _ unplaced = ⊥
+-- Statuses that come before any line was read or any reply written, and before any log file changed. LogOut may be one of them.
+abbrev pub IsBeforeLines : Status → Type 0
+IsBeforeLines AttributesFault = Unit {0}
+IsBeforeLines NoMemory = Unit {0}
+IsBeforeLines Usage = Unit {0}
+IsBeforeLines (Damaged damage) = Unit {0}
+IsBeforeLines Exists = Unit {0}
+IsBeforeLines NoDatabase = Unit {0}
+IsBeforeLines (BadAttribute name) = Unit {0}
+IsBeforeLines _ = ⊥
+
+-- statuses that come before the database is opened, or made
+abbrev pub IsBeforeOpening : Status → Type 0
+IsBeforeOpening AttributesFault = Unit {0}
+IsBeforeOpening Usage = Unit {0}
+IsBeforeOpening (BadAttribute name) = Unit {0}
+IsBeforeOpening _ = ⊥
+
+-- all was done, or memory was wanting
+abbrev pub IsDoneOrWanting : Status → Type 0
+IsDoneOrWanting status = (status ≡ Done) ⊎ (status ≡ NoMemory)
 
 -- memory was wanting, or the log files failed, before the database was open
 abbrev pub FailedEarly : Status → Type 0
@@ -60,12 +70,12 @@ IsCreateEnd Exists = Unit {0}
 IsCreateEnd _ = ⊥
 
 -- the status of a database that can't be opened
-abbrev pub status_of : OpenRefusal → Status
-status_of refusal.NoDatabase = NoDatabase
-status_of (refusal.Damaged damage) = Damaged damage
-status_of refusal.LogOut = LogOut
-status_of refusal.Failed = VolumeFault Logs
-status_of refusal.NoMemory = NoMemory
+abbrev pub refused_as : OpenRefusal → Status
+refused_as refusal.NoDatabase = NoDatabase
+refused_as (refusal.Damaged damage) = Damaged damage
+refused_as refusal.LogOut = LogOut
+refused_as refusal.Failed = VolumeFault Logs
+refused_as refusal.NoMemory = NoMemory
 
 -- ---- `run DIR`
 
@@ -76,7 +86,7 @@ mark_place settings found = position_of found.end (length_of Mark) settings.log_
 -- How a run may end where the database was opened as this: what can't be opened is refused so, and where there is no place for a
 -- Mark, no line is done. Memory may have been wanting before, or the log files failed.
 abbrev pub IsOpened : Settings → Result Opened OpenRefusal → Status → Type 0
-IsOpened settings (Err refusal) status = (status ≡ status_of refusal) ⊎ FailedEarly status
+IsOpened settings (Err refusal) status = (status ≡ refused_as refusal) ⊎ FailedEarly status
 IsOpened settings (Ok found) Done = IsSome (mark_place settings found)
 IsOpened settings (Ok found) ScriptFault = IsSome (mark_place settings found)
 IsOpened settings (Ok found) SinkFault = IsSome (mark_place settings found)
@@ -93,14 +103,6 @@ pub record HasNoPlace (attributes : Option (List ℕ)) (files : Files) : Type 0 
   pub gives : AreSettings attributes settings
   pub opens : database files ≡ Ok found
   pub none : mark_place settings found ≡ None
-
--- A run over what was found ended before its first line: for want of memory, since the Mark has no place, or in the log files. In
--- the last case this is untouched, and a crash leaves what was found, and perhaps the Mark.
-abbrev pub EndedEarly : Status → Settings → Opened → Type 0 → Type 0 → Files → (Name → Option (List ℕ) → Type 0) → Type 0
-EndedEarly NoMemory settings found untouched settled now may = Unit {0}
-EndedEarly LogOut settings found untouched settled now may = mark_place settings found ≡ None
-EndedEarly (VolumeFault Logs) settings found untouched settled now may = untouched × (settled → LeavesOpening (length found.entries) (begun_over settings now found) may)
-EndedEarly _ settings found untouched settled now may = ⊥
 
 -- ---- `create DIR`
 

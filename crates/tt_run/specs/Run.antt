@@ -1,10 +1,11 @@
 -- What a run of a script writes, and what its lines leave of the log files.
-use Rattle.std.specs.Prelude.{◌≤◌, ◌≡◌, ◌<◌, ◌-◌, ◌⊎◌, ℕ, List, [], ◌∷◌, ◌++◌, length, take, map, flat_map, filter, true, Option, Some, IfSome}
+use Rattle.std.specs.Prelude.{◌≤◌, ◌≡◌, ◌<◌, ◌-◌, ℕ, List, [], ◌∷◌, ◌++◌, length, take, map, flat_map, filter, true, Option, Some, None, IfSome}
 use Rattle.std.specs.Io.KnownBytes.{Appends}
-use Rattle.tt_disk.specs.Volume.{Keeps, Files}
-use Rattle.tt_disk.specs.declared.volume.Name.{Name}
+use Rattle.tt_disk.specs.Volume.{Keeps}
+use Rattle.tt_disk.specs.declared.volume.Volume.{Ghosts}
 use Rattle.tt_flow.specs.Script.{script_lines, ended_lines, script_most}
 use Rattle.tt_value.specs.declared.reply.Reply.{Reply}
+use Rattle.tt_value.specs.declared.reply.Stop.{Stop}
 use Rattle.tt_value.specs.declared.reply.Stop.TheVariants.{Logs}
 use Rattle.tt_model.specs.State.{State, write_position}
 use Rattle.tt_engine.specs.declared.request.Request.{Request}
@@ -13,11 +14,11 @@ use Rattle.tt_journal.specs.LogTrail.{ChangesFrom, HasFiles, IsQuiet}
 use Rattle.tt_engine.specs.Prefixes.{IsStill, LeavesOpening, LogsAreSettled, OpensForced}
 use Rattle.tt_journal.specs.Onward.{IsOnward}
 use Rattle.tt_engine.specs.Request.{Answers, answer, script_ended}
-use Rattle.tt_run.specs.declared.status.Status.{Status}
-use Rattle.tt_run.specs.declared.status.Status.TheVariants.{Done, ScriptFault, SinkFault, VolumeFault, ScriptTooLong}
+use Rattle.tt_run.specs.declared.run_end.RunEnd.{RunEnd}
+use Rattle.tt_run.specs.declared.run_end.RunEnd.TheVariants.{AtEnd, AtLine, AtSink, AtScript, ScriptOver}
+use Rattle.tt_run.specs.RunEnd.{stop_of}
 use Rattle.tt_run.specs.Reply.{text_of}
 use Rattle.tt_run.specs.Request.{IsRequest, AreRequests, is_answered}
-use Rattle.tt_disk.specs.declared.volume.Volume.{Ghosts}
 
 -- ---- moments
 
@@ -26,12 +27,15 @@ pub record Moment (V : Type 0) : Type 0 where
   pub state : State
   pub logs : V
 
+abbrev pub moment : {V : Type 0} → State → V → Moment V
+moment s logs = record { state = s; logs = logs }
+
 -- At this moment the log files have what the state has forced: those files are there that are the state's; opening finds just its
 -- forced entries; and it finds the same in each map of files that a crash may leave, where that was so at the start.
-pub record HasForced {V : Type 0} (g : Ghosts V) (settled : Type 0) (moment : Moment V) : Type 0 where
-  pub files : HasFiles moment.state (g.now moment.logs)
-  pub opens : OpensForced moment.state (g.now moment.logs)
-  pub settled_again : settled → LogsAreSettled (g.now moment.logs) (g.may moment.logs)
+pub record HasForced {V : Type 0} (g : Ghosts V) (settled : Type 0) (m : Moment V) : Type 0 where
+  pub files : HasFiles m.state (g.now m.logs)
+  pub opens : OpensForced m.state (g.now m.logs)
+  pub settled_again : settled → LogsAreSettled (g.now m.logs) (g.may m.logs)
 
 -- What the streams of a run tell: the bytes of its script, those that are left of it, and what the sink was given before and after.
 pub record Streams : Type 0 where
@@ -49,34 +53,29 @@ streams script left before after = record { script = script; left = left; before
 abbrev pub texts : List (Request × Reply) → List ℕ
 texts answered = flat_map (λ line. text_of line.1) answered
 
--- At one moment a line has a reply that it may have there, and it leads to the next moment, at which the log files have what is forced,
--- too. A line that forces nothing more and begins no file leaves the volume as it was; and no line changes another file than the log
--- files from the current one on.
-pub record IsLineBetween {V : Type 0} (g : Ghosts V) (settled : Type 0) (moment : Moment V) (line : Request × Reply) (next : Moment V) : Type 0 where
-  pub answers : Answers line.0 moment.state line.1 next.state
-  pub onward : IsOnward moment.state next.state
-  pub quiet : IsQuiet moment.state next.state → next.logs ≡ moment.logs
-  pub others : ChangesFrom (write_position moment.state).file (g.now moment.logs) (g.now next.logs) (g.may moment.logs) (g.may next.logs)
-  pub holds : HasForced g settled next
+-- At one moment a line has a reply that it may have there, and it leads to the next moment. A line that forces nothing more and begins
+-- no file leaves the volume as it was; and no line changes another file than the log files from the current one on.
+pub record IsLineBetween {V : Type 0} (g : Ghosts V) (m : Moment V) (line : Request × Reply) (next : Moment V) : Type 0 where
+  pub answers : Answers line.0 m.state line.1 next.state
+  pub onward : IsOnward m.state next.state
+  pub quiet : IsQuiet m.state next.state → next.logs ≡ m.logs
+  pub others : ChangesFrom (write_position m.state).file (g.now m.logs) (g.now next.logs) (g.may m.logs) (g.may next.logs)
 
--- From a moment on, each line leads to the next moment; behind the last line it is this one.
+-- From a moment on, each line leads to the next moment; behind the last line it is this one. At each of these moments, the first and
+-- the last among them, the log files have what is forced.
 abbrev pub AreLinesBetween : {V : Type 0} → Ghosts V → Type 0 → Moment V → List (Request × Reply) → Moment V → Type 0
-AreLinesBetween g settled moment [] after = after ≡ moment
-AreLinesBetween {V} g settled moment (line ∷ lines) after = (next : Moment V) × IsLineBetween g settled moment line next × AreLinesBetween g settled next lines after
-
--- These lines of a script were answered so from a moment on, and led to that one; blank lines and comments have no reply.
-pub record AreAnswered {V : Type 0} (g : Ghosts V) (settled : Type 0) (start : Moment V) (lines : List (Option (List ℕ))) (answered : List (Request × Reply)) (after : Moment V) : Type 0 where
-  pub requests : AreRequests (filter is_answered lines) (map (λ line. line.0) answered)
-  pub replies : AreLinesBetween g settled start answered after
+AreLinesBetween g settled m [] after = (after ≡ m) × HasForced g settled m
+AreLinesBetween {V} g settled m (line ∷ lines) after =
+    HasForced g settled m × ((next : Moment V) × IsLineBetween g m line next × AreLinesBetween g settled next lines after)
 
 -- Which lines of a script were done when the run ended so, where the script tells its bytes. At a fault of the script each line whose
--- line feed was taken was; at a fault of the sink the last one was answered in part.
-abbrev pub AreLinesDone : Option (List ℕ) → Option (List ℕ) → List (Option (List ℕ)) → Status → Type 0
-AreLinesDone script left lines Done = IfSome script (λ bytes. (length bytes ≤ script_most) × (script_lines bytes ≡ lines))
-AreLinesDone script left lines ScriptTooLong = IfSome script (λ bytes. (script_most < length bytes) × (ended_lines (take script_most bytes) ≡ lines))
-AreLinesDone script left lines ScriptFault = IfSome script (λ bytes. (rest : List ℕ) × (left ≡ Some rest) × (ended_lines (take (length bytes - length rest) bytes) ≡ lines))
-AreLinesDone script left lines SinkFault = IfSome script (λ bytes. (more : List (Option (List ℕ))) × (script_lines bytes ≡ lines ++ more))
-AreLinesDone script left lines _ = ⊥
+-- line feed was taken was; at a stop, and at a fault of the sink, there may be more.
+abbrev pub AreLinesDone : Option (List ℕ) → Option (List ℕ) → List (Option (List ℕ)) → RunEnd → Type 0
+AreLinesDone script left lines ScriptOver = IfSome script (λ bytes. (script_most < length bytes) × (ended_lines (take script_most bytes) ≡ lines))
+AreLinesDone script left lines AtScript = IfSome script (λ bytes. (rest : List ℕ) × (left ≡ Some rest) × (ended_lines (take (length bytes - length rest) bytes) ≡ lines))
+AreLinesDone script left lines (AtLine reply stop) = IfSome script (λ bytes. (more : List (Option (List ℕ))) × (script_lines bytes ≡ lines ++ more))
+AreLinesDone script left lines (AtSink stop) = IfSome script (λ bytes. (more : List (Option (List ℕ))) × (script_lines bytes ≡ lines ++ more))
+AreLinesDone script left lines _ = IfSome script (λ bytes. (length bytes ≤ script_most) × (script_lines bytes ≡ lines))
 
 -- A line behind these is one that is answered. From this state it leads to that one, and it forces more or begins a file.
 pub record LeadsTo (script : Option (List ℕ)) (lines : List (Option (List ℕ))) (s last : State) : Type 0 where
@@ -88,65 +87,61 @@ pub record LeadsTo (script : Option (List ℕ)) (lines : List (Option (List ℕ)
   pub leads : last ≡ (answer request s).1
   pub calls : CallsLog request s
 
--- In which state the run ended so, where the lines that were answered led to the first one. A fault of the log files came at the end of
--- the script, with all lines done and something to force, or in the next line, which had then made a part of its entries, and forces
--- more or begins a file.
-abbrev pub EndsIn : Option (List ℕ) → Option (List ℕ) → List (Option (List ℕ)) → State → State → Status → Type 0
-EndsIn script left lines s last Done = AreLinesDone script left lines Done × (last ≡ script_ended s)
-EndsIn script left lines s last (VolumeFault Logs) = (AreLinesDone script left lines Done × (last ≡ s) × EndCallsLog s) ⊎ LeadsTo script lines s last
-EndsIn script left lines s last status = AreLinesDone script left lines status × (last ≡ s)
+-- In which state the run ended so, where the lines that were answered led to the first one. The log files stopped it at the end of the
+-- script, with all lines done and something to force, or in the next line, which had then made a part of its entries, and forces
+-- more or begins a file. The lines that there are have no call on another volume, none behind their reply, and at the end of a script
+-- there is always a place: so no run ends otherwise.
+abbrev pub EndsIn : Option (List ℕ) → Option (List ℕ) → List (Option (List ℕ)) → State → State → RunEnd → Type 0
+EndsIn script left lines s last (AtEnd None) = AreLinesDone script left lines (AtEnd None) × (last ≡ script_ended s)
+EndsIn script left lines s last (AtEnd (Some Logs)) = AreLinesDone script left lines (AtEnd (Some Logs)) × (last ≡ s) × EndCallsLog s
+EndsIn script left lines s last (AtLine None Logs) = LeadsTo script lines s last
+EndsIn script left lines s last (AtSink None) = AreLinesDone script left lines (AtSink None) × (last ≡ s)
+EndsIn script left lines s last AtScript = AreLinesDone script left lines AtScript × (last ≡ s)
+EndsIn script left lines s last ScriptOver = AreLinesDone script left lines ScriptOver × (last ≡ s)
+EndsIn script left lines s last _ = ⊥
 
 -- What was written when the run ended so: the text of each reply; of the last one a part, where the sink failed.
-abbrev pub AreTexts : Option (List ℕ) → Option (List ℕ) → List (Request × Reply) → Status → Type 0
-AreTexts before after answered SinkFault = (front : List (Request × Reply)) × (last : Request × Reply) × (n : ℕ) × (answered ≡ front ++ last ∷ []) × Appends before after (texts front ++ take n (text_of last.1))
+abbrev pub AreTexts : Option (List ℕ) → Option (List ℕ) → List (Request × Reply) → RunEnd → Type 0
+AreTexts before after answered (AtSink stop) = (front : List (Request × Reply)) × (last : Request × Reply) × (n : ℕ) × (answered ≡ front ++ last ∷ []) × Appends before after (texts front ++ take n (text_of last.1))
 AreTexts before after answered _ = Appends before after (texts answered)
 
--- The lines of a script were answered so from a moment on, up to a status, and the texts of the replies were written. They led to the
--- moment behind them, and the run ended in the last state.
-pub record HasRun {V : Type 0} (g : Ghosts V) (settled : Type 0) (told : Streams) (start : Moment V) (status : Status) (behind : Moment V) (last : State) : Type 0 where
+-- When the run ended so, these lines of the script were done, and those of them that are neither blank nor comments had these replies,
+-- whose texts were written. The replies led to one state, and the run ended in the other.
+pub record HasDone (told : Streams) (replies : List (Request × Reply)) (s last : State) (end : RunEnd) : Type 0 where
   pub lines : List (Option (List ℕ))
-  pub replies : List (Request × Reply)
-  pub answers : AreAnswered g settled start lines replies behind
-  pub ends : EndsIn told.script told.left lines behind.state last status
-  pub texts_written : AreTexts told.before told.after replies status
+  pub requests : AreRequests (filter is_answered lines) (map (λ line. line.0) replies)
+  pub ends : EndsIn told.script told.left lines s last end
+  pub texts_written : AreTexts told.before told.after replies end
 
 -- ---- what is left of the log files
 
--- What is left where no call on the log files failed: they have what the last state has forced, and where the end of the run forced
--- nothing, the volume is as the lines left it.
-pub record IsLeft {V : Type 0} (g : Ghosts V) (settled : Type 0) (behind : Moment V) (last : State) (new : V) : Type 0 where
-  pub holds : HasForced g settled (record { state = last; logs = new })
-  pub quiet : IsQuiet behind.state last → new ≡ behind.logs
+-- What is left behind the last reply when the run ended so. Where no volume stopped it, the log files have what the last state has
+-- forced, and where nothing more was forced, the volume is as the lines left it. Where one did, opening what a crash may leave finds
+-- what a prefix of the last state's trail stands for, which has all entries that were forced before. No file changed but the log
+-- files from the current one on.
+pub record Leaves {V : Type 0} (g : Ghosts V) (settled : Type 0) (behind : Moment V) (last : State) (end : RunEnd) (new : V) : Type 0 where
+  pub onward : IsOnward behind.state last
+  pub holds : stop_of end ≡ None → HasForced g settled (moment last new)
+  pub quiet : stop_of end ≡ None → IsQuiet behind.state last → new ≡ behind.logs
+  pub crash : (stop : Stop) → stop_of end ≡ Some stop → settled → LeavesOpening behind.state.forced last (g.may new)
+  pub others : ChangesFrom (write_position behind.state).file (g.now behind.logs) (g.now new) (g.may behind.logs) (g.may new)
 
--- What is left when the run ended so. Where a call on the log files failed, opening what a crash may leave finds what a prefix of
--- the last state's trail stands for, which has all entries that were forced before the line that failed.
-abbrev pub HasLeft : {V : Type 0} → Ghosts V → Type 0 → Status → Moment V → State → V → Type 0
-HasLeft g settled (VolumeFault stop) behind last new = settled → LeavesOpening behind.state.forced last (g.may new)
-HasLeft g settled _ behind last new = IsLeft g settled behind last new
-
--- From a moment on the lines of a script were done, up to a status: what was answered, written and left, all of one list of lines with
--- their replies, and of the moments between them. What came behind the last answered line changed no file but the log files from the
--- current one on.
-pub record IsRunFrom {V : Type 0} (g : Ghosts V) (settled : Type 0) (told : Streams) (start : Moment V) (status : Status) (new : V) : Type 0 where
+-- From a moment on the lines of a script were done, up to this end: what was answered, written and left, all of one list of lines with
+-- their replies, and of the moments between them.
+pub record IsRunFrom {V : Type 0} (g : Ghosts V) (settled : Type 0) (told : Streams) (start : Moment V) (end : RunEnd) (new : V) : Type 0 where
+  pub replies : List (Request × Reply)
   pub behind : Moment V
   pub last : State
-  pub begins : HasForced g settled start
-  pub run : HasRun g settled told start status behind last
-  pub onward : IsOnward behind.state last
-  pub others : ChangesFrom (write_position behind.state).file (g.now behind.logs) (g.now new) (g.may behind.logs) (g.may new)
-  pub logs : HasLeft g settled status behind last new
-
--- this is so, unless a call on the log files failed
-abbrev pub UnlessLogsFailed : Status → Type 0 → Type 0
-UnlessLogsFailed (VolumeFault stop) unchanged = Unit {0}
-UnlessLogsFailed _ unchanged = unchanged
+  pub answered : AreLinesBetween g settled start replies behind
+  pub done : HasDone told replies behind.state last end
+  pub leaves : Leaves g settled behind last end new
 
 -- A run of a script, from the state that opening found. Where its Mark forces nothing and begins no file, opening changed no file; and
--- where nothing was forced up to the last state, and no file began, the whole run didn't, unless a call on the log files failed.
--- However it ended, it changed no file but the log files from the one on in which the log that was found ends.
-pub record IsRun {V : Type 0} (g : Ghosts V) (settled : Type 0) (told : Streams) (start : State) (status : Status) (old new : V) : Type 0 where
+-- where nothing was forced up to the last state, and no file began, the whole run didn't, unless a volume stopped it. However it
+-- ended, it changed no file but the log files from the one on in which the log that was found ends.
+pub record IsRun {V : Type 0} (g : Ghosts V) (settled : Type 0) (told : Streams) (start : State) (end : RunEnd) (old new : V) : Type 0 where
   pub opened : V
   pub unchanged : IsStill start → Keeps (g.now old) (g.now opened) (g.may old) (g.may opened)
-  pub lines : IsRunFrom g settled told (record { state = start; logs = opened }) status new
-  pub still : IsStill lines.last → UnlessLogsFailed status (Keeps (g.now old) (g.now new) (g.may old) (g.may new))
+  pub lines : IsRunFrom g settled told (moment start opened) end new
+  pub still : IsStill lines.last → stop_of end ≡ None → Keeps (g.now old) (g.now new) (g.may old) (g.may new)
   pub others : ChangesFrom start.found.end.file (g.now old) (g.now new) (g.may old) (g.may new)

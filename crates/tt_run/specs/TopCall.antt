@@ -1,29 +1,33 @@
--- The words of the top call at its devices, by the dictionaries of their traits. Of a device that tells nothing they say nothing.
-use Rattle.std.specs.Prelude.{◌≡◌, ◌≢◌, ◌⊎◌, ℕ, List, map, String, string_bytes, take, Option, Some, None, Result, Ok, Err, IfOk}
+-- The words of the top call: what `create DIR` and `run DIR` make of their devices. Of a device that tells nothing they say nothing.
+use Rattle.std.specs.Prelude.{◌≡◌, ◌≢◌, ◌≤◌, ◌⊎◌, ℕ, List, length, map, String, string_bytes, Option, Some, None, IsSome, Result, Ok, Err}
 use Rattle.tt_disk.specs.Calls.{KeepsFiles}
-use Rattle.tt_disk.specs.Faults.{RoseWhere}
 use Rattle.tt_disk.specs.Volume.{Keeps}
-use Rattle.tt_disk.specs.declared.volume.Failed.{Failed}
 use Rattle.tt_disk.specs.declared.volume.Name.TheVariants.{Log as LogFile}
 use Rattle.tt_disk.specs.declared.volume.Volume.{Ghosts}
+use Rattle.tt_flow.specs.Script.{script_most}
 use Rattle.tt_flow.specs.declared.stream.Sink.{Ghosts as SinkGhosts}
 use Rattle.tt_flow.specs.declared.stream.Source.{Ghosts as SourceGhosts}
-use Rattle.tt_flow.specs.declared.lines.LineReader.{LineReader}
+use Rattle.tt_value.specs.declared.reply.Stop.TheVariants.{Logs}
 use Rattle.tt_journal.specs.LogTrail.{ChangesFrom}
-use Rattle.tt_model.specs.State.{State, write_position}
+use Rattle.tt_model.specs.Opened.{Opened}
 use Rattle.tt_set.specs.Settings.{Says}
 use Rattle.tt_set.specs.declared.settings.Settings.{Settings}
-use Rattle.tt_engine.specs.declared.engine.Engine.{Engine}
 use Rattle.tt_engine.specs.declared.refusal.OpenRefusal.{OpenRefusal}
-use Rattle.tt_engine.specs.Engine.{Represents}
-use Rattle.tt_engine.specs.Starts.{database}
-use Rattle.tt_run.specs.Attributes.{EndedInAttributes, ForSettings, IsRefusedFor, IsSaid}
-use Rattle.tt_run.specs.Loops.{HasEnded, IsGivenOf, IsNext}
-use Rattle.tt_run.specs.Openings.{IsCreated, IsCreateText, IsOpened, LeavesNoLog, LeavesNoOther}
+use Rattle.tt_engine.specs.Prefixes.{LeavesOpening, LogsAreSettled}
+use Rattle.tt_engine.specs.Starts.{begun_over, database}
+use Rattle.tt_run.specs.Attributes.{EndedInAttributes, ForSettings, IsBadSo, IsRefusedFor, IsSaid}
+use Rattle.tt_run.specs.Devices.{DoesNothing, SinkFailed, SourceFailed, VolumeFailed}
+use Rattle.tt_run.specs.Openings.{HasNoPlace, IsBeforeLines, IsBeforeOpening, IsCreated, IsCreateText, IsDoneOrWanting, IsOpened, LeavesNoLog, LeavesNoOther, mark_place}
+use Rattle.tt_run.specs.Run.{IsRun, Streams}
+use Rattle.tt_run.specs.RunEnd.{status_of}
+use Rattle.tt_run.specs.ScriptRun.{told_between}
 use Rattle.tt_run.specs.Words.{form_of}
-use Rattle.tt_run.specs.declared.top_call.NextLine.{NextLine}
+use Rattle.tt_run.specs.declared.devices.Devices.{Devices}
+use Rattle.tt_run.specs.declared.run_end.RunEnd.{RunEnd}
 use Rattle.tt_run.specs.declared.status.Status.{Status}
+use Rattle.tt_run.specs.declared.status.Status.TheVariants.{LogOut, NoMemory, Usage, VolumeFault}
 use Rattle.tt_run.specs.declared.words.Action.{Action}
+use Rattle.tt_run.specs.declared.words.Action.TheVariants.{Create}
 
 -- ---- words and attributes
 
@@ -43,19 +47,11 @@ RefusesWrong told status = (text name : List ℕ) → told ≡ Some text → Say
 abbrev pub SaysOnly : Option (List ℕ) → Result Settings Status → Type 0
 SaysOnly told result = (text : List ℕ) (said : Result Settings (List ℕ)) → told ≡ Some text → Says text said → IsSaid said result
 
--- ---- counts of faults
-
--- the count of a source rose where this holds
-abbrev pub SourceRose : {S : Type 0} → SourceGhosts S → Type 0 → S → S → Type 0
-SourceRose g P old new = RoseWhere g.exact P (g.faults old) (g.faults new)
-
--- the count of a sink rose where this holds
-abbrev pub SinkRose : {K : Type 0} → SinkGhosts K → Type 0 → K → K → Type 0
-SinkRose g P old new = RoseWhere g.exact P (g.faults old) (g.faults new)
-
--- the count of a volume rose where this holds
-abbrev pub VolumeRose : {V : Type 0} → Ghosts V → Type 0 → V → V → Type 0
-VolumeRose g P old new = RoseWhere g.exact P (g.faults old) (g.faults new)
+-- A run ends with BadAttribute just for the first name that isn't right in the text of its attributes, where they tell it. A fault of the
+-- attributes, or want of memory, may come in its place.
+pub record JudgesAttributes {A Z : Type 0} (a : SourceGhosts A) (words : List (String Z)) (attributes : A) (status : Status) : Type 0 where
+  pub only : (text : List ℕ) → a.left attributes ≡ Some text → IsBadSo text status
+  pub always : HaveForm words → RefusesWrong (a.left attributes) status
 
 -- ---- what was left alone
 
@@ -63,15 +59,17 @@ VolumeRose g P old new = RoseWhere g.exact P (g.faults old) (g.faults new)
 abbrev pub WritesNothing : {K V : Type 0} → Ghosts V → K → K → V → V → Type 0
 WritesNothing g sink sink' old new = (sink' ≡ sink) × KeepsFiles g old new
 
--- nothing was read of the script or written, and no log file changed
-abbrev pub DoesNothing : {S K V : Type 0} → Ghosts V → S → S → K → K → V → V → Type 0
-DoesNothing g script script' sink sink' old new = (script' ≡ script) × (sink' ≡ sink) × KeepsFiles g old new
-
--- over files that can't be opened nothing is read of the script or written, and no log file changes
-abbrev pub KeepsRefused : {S K V : Type 0} → Ghosts V → S → S → K → K → V → V → Type 0
-KeepsRefused g script script' sink sink' old new =
-    (refusal : OpenRefusal) → g.told → database (g.now old) ≡ Err refusal
-    → (script' ≡ script) × (sink' ≡ sink) × Keeps (g.now old) (g.now new) (g.may old) (g.may new)
+-- By status, what had no call. Nothing was read of the script, written or changed where a status comes before the lines; the log files
+-- had no call where it comes before the database is opened. The words come before the attributes, and `create DIR` reads no script.
+-- Images and backups aren't used yet.
+pub record Untouched {S A K L C B Z : Type 0} (a : SourceGhosts A) (g : Ghosts L) (words : List (String Z)) (old new : Devices S A K L C B) (status : Status) : Type 0 where
+  pub before_lines : IsBeforeLines status → DoesNothing g old new
+  pub no_place : status ≡ LogOut → HasNoPlace (a.left old.attributes) (g.now old.logs) → DoesNothing g old new
+  pub attributes_first : IsBeforeOpening status → new.logs ≡ old.logs
+  pub words_first : status ≡ Usage → new.attributes ≡ old.attributes
+  pub create_script : Asks words Create → new.script ≡ old.script
+  pub images : new.images ≡ old.images
+  pub backups : new.backups ≡ old.backups
 
 -- ---- `create DIR`
 
@@ -97,25 +95,58 @@ CrashLeavesNoOtherOn g old new = g.told → LeavesNoLog (g.may old) → LeavesNo
 abbrev pub WritesCreated : {K : Type 0} → SinkGhosts K → K → K → Status → Type 0
 WritesCreated k old new status = IsCreateText (k.given old) (k.given new) status (new ≡ old)
 
+-- What `create DIR` makes. Over told files a database is made where there is none. One that is there stays as it is, whatever failed;
+-- and however the call ends, a log that a crash leaves opens as a new database, or not at all, if none could be left before. Where no
+-- count rose, the attributes are right and there was no first log file, it is done, unless memory is wanting.
+pub record Creates {S A K L C B : Type 0} (a : SourceGhosts A) (k : SinkGhosts K) (g : Ghosts L) (old new : Devices S A K L C B) (status : Status) : Type 0 where
+  pub made : CreatesOn g (a.left old.attributes) old.logs new.logs status
+  pub there : KeepsDatabase g old.logs new.logs
+  pub no_other : CrashLeavesNoOtherOn g old.logs new.logs
+  pub text_written : WritesCreated k old.sink new.sink status
+  pub complete : (text : List ℕ) (settings : Settings) → g.told → a.left old.attributes ≡ Some text → Says text (Ok settings) → g.now old.logs (LogFile 0) ≡ None
+      → ¬ (SourceFailed a old.attributes new.attributes) → ¬ (SinkFailed k old.sink new.sink) → ¬ (VolumeFailed g old.logs new.logs) → IsDoneOrWanting status
+
 -- ---- `run DIR`
 
--- how the database was opened, by the settings that the attributes give
-abbrev pub OpensFor : {V : Type 0} → Ghosts V → Option (List ℕ) → V → Status → Type 0
-OpensFor g attributes old status = g.told → ForSettings attributes status (λ settings. IsOpened settings (database (g.now old)) status)
+-- over files that can't be opened nothing is read of the script or written, and no log file changes
+abbrev pub KeepsRefused : {S A K L C B : Type 0} → Ghosts L → Devices S A K L C B → Devices S A K L C B → Type 0
+KeepsRefused g old new = (refusal : OpenRefusal) → g.told → database (g.now old.logs) ≡ Err refusal → DoesNothing g old new
 
--- what the end of the script makes of each state that the engine stands for
-abbrev pub EndsScriptOn : {V : Type 0} → Ghosts V → Engine → V → V → Status → Type 0
-EndsScriptOn g e old new status =
-    g.told → (s : State) → Represents e (g.now old) s → HasEnded g e (record { state = s; logs = old }) new status
+-- The log files failed at the Mark, before the first line: nothing was read of the script or written, and a crash leaves what was
+-- found, and perhaps the Mark.
+pub record FailsAtMark {S A K L C B : Type 0} (g : Ghosts L) (settings : Settings) (found : Opened) (old new : Devices S A K L C B) : Type 0 where
+  pub script : new.script ≡ old.script
+  pub sink : new.sink ≡ old.sink
+  pub others : ChangesFrom found.end.file (g.now old.logs) (g.now new.logs) (g.may old.logs) (g.may new.logs)
+  pub crash : LogsAreSettled (g.now old.logs) (g.may old.logs) → LeavesOpening (length found.entries) (begun_over settings (g.now old.logs) found) (g.may new.logs)
 
--- no file changed but the log files from the one on in which the engine writes
-abbrev pub ChangesFromEnd : {V : Type 0} → Ghosts V → Engine → V → V → Type 0
-ChangesFromEnd g e old new =
-    g.told → (s : State) → Represents e (g.now old) s
-    → ChangesFrom (write_position s).file (g.now old) (g.now new) (g.may old) (g.may new)
+-- A run over what was found ended before its first line: for want of memory, since the Mark has no place, or in the log files.
+abbrev pub EndedEarly : {S A K L C B : Type 0} → Ghosts L → Settings → Opened → Devices S A K L C B → Devices S A K L C B → Status → Type 0
+EndedEarly g settings found old new NoMemory = Unit {0}
+EndedEarly g settings found old new LogOut = mark_place settings found ≡ None
+EndedEarly g settings found old new (VolumeFault Logs) = FailsAtMark g settings found old new
+EndedEarly g settings found old new _ = ⊥
 
--- what came next in a script of which some lines were given
-abbrev pub ReadsNext : {S : Type 0} → SourceGhosts S → LineReader → S → LineReader → S → Result NextLine Failed → Type 0
-ReadsNext g reader script reader' script' result =
-    (bytes : Option (List ℕ)) (given : List (Option (List ℕ))) → IsGivenOf bytes given reader (g.left script)
-    → IsNext bytes given result reader' (g.left script')
+-- The lines were begun over what was found: it is one run of the model, from the state that opening found, and the status is that of
+-- its end.
+pub record DidLines {V : Type 0} (g : Ghosts V) (start : Settings × Opened) (told : Streams) (old new : V) (status : Status) : Type 0 where
+  pub end : RunEnd
+  pub is : status ≡ status_of end
+  pub run : IsRun g (LogsAreSettled (g.now old) (g.may old)) told (begun_over start.0 (g.now old) start.1) end old new
+
+-- By these settings, how the database was opened, and what the run then did, unless it ended before the lines.
+pub record RunsWith {S A K L C B : Type 0} (s : SourceGhosts S) (k : SinkGhosts K) (g : Ghosts L) (settings : Settings) (old new : Devices S A K L C B) (status : Status) : Type 0 where
+  pub opened : IsOpened settings (database (g.now old.logs)) status
+  pub ran : (found : Opened) → database (g.now old.logs) ≡ Ok found
+      → EndedEarly g settings found old new status ⊎ DidLines g (settings, found) (told_between s k old new) old.logs new.logs status
+
+-- What `run DIR` does. By the settings that the attributes give, it opens the database and does the lines; one that can't be opened
+-- stays as it is, whatever failed. Where no count rose, a script that isn't too long is done to its end, unless memory is wanting before
+-- the lines.
+pub record Runs {S A K L C B : Type 0} (s : SourceGhosts S) (a : SourceGhosts A) (k : SinkGhosts K) (g : Ghosts L) (old new : Devices S A K L C B) (status : Status) : Type 0 where
+  pub ran : g.told → ForSettings (a.left old.attributes) status (λ settings. RunsWith s k g settings old new status)
+  pub refused : KeepsRefused g old new
+  pub complete : (bytes text : List ℕ) (settings : Settings) (found : Opened) → g.told → s.left old.script ≡ Some bytes → length bytes ≤ script_most
+      → a.left old.attributes ≡ Some text → Says text (Ok settings) → database (g.now old.logs) ≡ Ok found → IsSome (mark_place settings found)
+      → ¬ (SourceFailed s old.script new.script) → ¬ (SourceFailed a old.attributes new.attributes)
+      → ¬ (SinkFailed k old.sink new.sink) → ¬ (VolumeFailed g old.logs new.logs) → IsDoneOrWanting status

@@ -1,10 +1,10 @@
 //! The settings that a source of attributes gives: its text is read to its end, or to the byte that is too many.
-ghost use Rattle.std.specs.Prelude.{◌≡◌, ◌⊎◌, ◌≤◌, ◌+◌, ◌++◌, ◌<◌, [], length, take, List, ℕ, Result, Some, IfOk, IfErr, IsErrOf};
+ghost use Rattle.std.specs.Prelude.{◌≡◌, ◌≤◌, ◌+◌, ◌<◌, length, take, IfOk, IfErr, IsErrOf};
 ghost use Rattle.tt_disk.specs.Faults.{HasCause, RoseWhere};
-ghost use Rattle.tt_set.specs.Settings.{AreInRange, Says};
-ghost use Rattle.tt_set.specs.declared.settings.Settings.{Settings};
-ghost use Rattle.tt_run.specs.TopCall.{SaysOnly, SourceRose};
-ghost use Rattle.tt_run.specs.Attributes.{IsFrom, IsSaid, IsReadEnd, IsUnread};
+ghost use Rattle.tt_set.specs.Settings.{AreInRange};
+ghost use Rattle.tt_run.specs.Devices.{SourceRose};
+ghost use Rattle.tt_run.specs.TopCall.{SaysOnly};
+ghost use Rattle.tt_run.specs.Attributes.{FillsFront, IsFrom, IsReadEnd, IsUnread, OfText, TakesBehind};
 
 use crate::status::Status;
 use std::alloc::Global;
@@ -18,7 +18,7 @@ const READ_MAX: usize = 65_537;
 // The settings of a database. The attributes are read to their end, or to the byte that is too many.
 pub(crate) fn settings_of<A: Source>(alloc: Global, attributes: &mut A) -> Result<Settings, Status>
     ensures range { IfOk result AreInRange }
-    ensures says { (text : List ℕ) → A.left attributes.old ≡ Some text → IsFrom text result }
+    ensures says { OfText A.Source attributes.old (λ text. IsFrom text result) }
     ensures only { SaysOnly (A.left attributes.old) result }
     ensures statuses { IfErr result IsReadEnd }
     ensures fault { SourceRose A.Source (IsErrOf result Status.AttributesFault) attributes.old attributes.new }
@@ -36,7 +36,7 @@ pub(crate) fn settings_of<A: Source>(alloc: Global, attributes: &mut A) -> Resul
 
 // The attributes to their end, or so many bytes of them.
 fn read_text<A: Source>(alloc: Global, attributes: &mut A, most: usize) -> Result<Vec<u8>, Status>
-    ensures bytes { (text : List ℕ) → A.left attributes.old ≡ Some text → IfOk result (λ read. read.items ≡ take most text) }
+    ensures bytes { OfText A.Source attributes.old (λ text. IfOk result (λ read. read.items ≡ take most text)) }
     ensures statuses { IfErr result IsUnread }
     ensures fault { SourceRose A.Source (IsErrOf result Status.AttributesFault) attributes.old attributes.new }
 {
@@ -56,8 +56,7 @@ fn read_text<A: Source>(alloc: Global, attributes: &mut A, most: usize) -> Resul
 fn fill<A: Source>(source: &mut A, buffer: &mut [u8]) -> Result<usize, Failed>
     ensures bound { IfOk result (λ n. n ≤ length buffer.new) }
     ensures long { length buffer.new ≡ length buffer.old }
-    ensures bytes { (text : List ℕ) → A.left source.old ≡ Some text
-        → IfOk result (λ n. take n buffer.new ≡ take (length buffer.old) text) }
+    ensures bytes { FillsFront A.Source source.old buffer.old buffer.new result }
     ensures cause { HasCause A.exact (A.faults source.old) (A.faults source.new) result }
 {
     let mut used = 0;
@@ -79,9 +78,7 @@ fn take_behind<A: Source>(source: &mut A, buffer: &mut [u8], used: usize) -> Res
     requires { used < length buffer.old }
     ensures long { length buffer.new ≡ length buffer.old }
     ensures bound { IfOk result (λ n. used + n ≤ length buffer.new) }
-    ensures bytes { (left : List ℕ) → A.left source.old ≡ Some left
-        → IfOk result (λ n. (rest : List ℕ) × (A.left source.new ≡ Some rest)
-        × (take (used + n) buffer.new ++ rest ≡ take used buffer.old ++ left) × (n ≡ 0 → rest ≡ [])) }
+    ensures bytes { TakesBehind A.Source used source.old source.new buffer.old buffer.new result }
     ensures cause { HasCause A.exact (A.faults source.old) (A.faults source.new) result }
 {
     source.take(&mut buffer[used..])

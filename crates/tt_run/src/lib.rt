@@ -2,14 +2,18 @@
 #![tactic(auto)]
 
 mod attributes;
+mod devices;
 mod reply;
 mod request;
+mod run_end;
+mod script_run;
 mod status;
 #[cfg(test)]
 mod tests;
 mod top_call;
 mod words;
 
+pub use devices::Devices;
 pub use status::Status;
 pub use top_call::run;
 pub use tt_engine::Damage;

@@ -1,8 +1,7 @@
 //! The text of a reply, in a buffer of fixed size: it takes no memory, and is put by one call.
-ghost use Rattle.std.specs.Prelude.{◌≡◌, ◌+◌, ◌≤◌, ◌++◌, ◌∷◌, [], length, codes, decimal};
+ghost use Rattle.std.specs.Prelude.{◌≡◌, ◌+◌, ◌≤◌, ◌++◌, [], length};
 ghost use Rattle.tt_engine.specs.Request.{IsReplyInUse};
-ghost use Rattle.tt_run.specs.Reply.{text_of, field_words, place_words};
-ghost use Rattle.tt_value.specs.Refusal.{number_of, name_of, field_of};
+ghost use Rattle.tt_run.specs.Reply.{text_of, refusal_words, place_words};
 
 use itoa::Buffer;
 use std::marker::Model;
@@ -93,7 +92,7 @@ fn push_position(text: &mut ReplyText, at: Position)
 
 fn push_refusal(text: &mut ReplyText, refusal: Refusal)
     requires { text.old ≡ [] }
-    ensures words { text.new ≡ codes "error " ++ (decimal (number_of refusal) ++ (32 ∷ (name_of refusal ++ field_words (field_of refusal)))) }
+    ensures words { text.new ≡ refusal_words refusal }
     ensures short { length text.new ≤ 72 }
 {
     text.push(b"error ");

@@ -1,79 +1,54 @@
 use Rattle.std.proofs.Common.{◌≡◌, ◌∙◌, ap, inl, inr, refl, sym, subst, Ok, Err, Result}
-use Rattle.tt_run.specs.declared.status.Status.{Status}
-use Rattle.tt_engine.specs.Prefixes.{LogsAreSettled}
-use Rattle.tt_journal.specs.LogTrail.{ChangesFrom}
-use Rattle.tt_engine.specs.Starts.{begun_over}
-use Rattle.tt_model.specs.Opened.{Opened}
 use Rattle.tt_set.specs.declared.settings.Settings.{Settings}
-use Rattle.tt_engine.specs.declared.refusal.OpenRefusal.{OpenRefusal}
-use Rattle.tt_run.proofs.OpenLemmas.{completes, none_left, out_before}
-use Rattle.tt_run.proofs.SettingsLemmas.{are_settings, ended_bad, ended_complete, ended_in_attributes, ended_not_usage, ended_so, ended_text, said_not_bad, same_settings}
 use Rattle.std.specs.Prelude.{IsSome}
-use Rattle.tt_run.specs.Openings.{IsOpened, mark_place}
+use Rattle.tt_run.specs.Devices.{SinkFailed, SourceFailed, VolumeFailed}
+use Rattle.tt_run.specs.Openings.{mark_place}
+use Rattle.tt_run.specs.declared.status.Status.{Status}
+use Rattle.tt_run.proofs.OpenLemmas.{completes}
+use Rattle.tt_run.proofs.SettingsLemmas.{are_settings, ended_bad, ended_so, said_not_bad, same_settings}
+use Rattle.tt_run.proofs.TopLemmas.{create_not_bad, ended_creates, ended_runs, nothing_from, read_bad, run_not_bad, runs_from}
 use Rattle.tt_run.proofs.top_call.run.Goals as goal
 
-pub returns-in-Err-clause-usage : goal.returns-in-Err-clause-usage
-returns-in-Err-clause-usage g c = (
-  λ usage. absurd (ended_not_usage c.in-Err.status (ended_so c.in-Err.status c.in-Err.ensures.statuses) usage),
-  λ none. let some = sym c.in-Some.is ∙ c.read_words.ensures ∙ none in cc,
-)
+pub returns-in-Err-clause-attributes : goal.returns-in-Err-clause-attributes
+returns-in-Err-clause-attributes g c = record {
+  only = λ text told. read_bad text c.in-Err.status (c.in-Err.ensures.says text told);
+  always = λ form text name told says. ended_bad c.in-Err.status name (ended_so c.in-Err.status c.in-Err.ensures.statuses) (c.in-Err.ensures.only text (Err name) told says);
+}
 
-pub returns-in-Err-clause-words_first : goal.returns-in-Err-clause-words_first
-returns-in-Err-clause-words_first g c = λ usage. absurd (ended_not_usage c.in-Err.status (ended_so c.in-Err.status c.in-Err.ensures.statuses) usage)
+pub returns-in-Err-clause-creates : goal.returns-in-Err-clause-creates
+returns-in-Err-clause-creates g c = λ asks.
+    ended_creates g.S.Source g.A.Source g.K.Sink g.L.Volume c.args.devices.now c.settings_of.new.attributes c.in-Err.status
+    (record { ended = ended_so c.in-Err.status c.in-Err.ensures.statuses; says = c.in-Err.ensures.says; only = c.in-Err.ensures.only; failed = λ is. c.in-Err.ensures.fault.failed (ap (λ (status : Status). Err status) is) })
 
-pub returns-in-Err-clause-bad_attribute : goal.returns-in-Err-clause-bad_attribute
-returns-in-Err-clause-bad_attribute g c = λ form text name told says. ended_bad c.in-Err.status name (ended_so c.in-Err.status c.in-Err.ensures.statuses) (c.in-Err.ensures.only text (Err name) told says)
+pub returns-in-Err-clause-runs : goal.returns-in-Err-clause-runs
+returns-in-Err-clause-runs g c = λ asks.
+    ended_runs g.S.Source g.A.Source g.K.Sink g.L.Volume c.args.devices.now c.settings_of.new.attributes c.in-Err.status
+    (record { ended = ended_so c.in-Err.status c.in-Err.ensures.statuses; says = c.in-Err.ensures.says; only = c.in-Err.ensures.only; failed = λ is. c.in-Err.ensures.fault.failed (ap (λ (status : Status). Err status) is) })
 
-pub returns-in-Err-clause-created : goal.returns-in-Err-clause-created
-returns-in-Err-clause-created g c = λ form told. inl (ended_in_attributes (g.A.Source.left c.args.attributes.now) c.in-Err.status c.in-Err.ensures.says (ended_so c.in-Err.status c.in-Err.ensures.statuses))
+pub returns-in-Create-clause-attributes : goal.returns-in-Create-clause-attributes
+returns-in-Create-clause-attributes g c = record {
+  only = λ text told. create_not_bad text c.create.result c.create.ensures.statuses;
+  always = λ form text name told says. absurd (said_not_bad name c.in-Ok.settings (c.in-Ok.ensures.only text (Err name) told says));
+}
 
-pub returns-in-Err-clause-no_other : goal.returns-in-Err-clause-no_other
-returns-in-Err-clause-no_other g c = λ form told none. none_left (g.L.Volume.may c.args.logs.now) none
+pub returns-in-Run-clause-attributes : goal.returns-in-Run-clause-attributes
+returns-in-Run-clause-attributes g c = record {
+  only = λ text told. run_not_bad text c.run_script.result c.run_script.ensures.statuses;
+  always = λ form text name told says. absurd (said_not_bad name c.in-Ok.settings (c.in-Ok.ensures.only text (Err name) told says));
+}
 
-pub returns-in-Err-clause-create_text : goal.returns-in-Err-clause-create_text
-returns-in-Err-clause-create_text g c = λ form. ended_text c.in-Err.status _ (g.K.Sink.given c.args.sink.now) (ended_so c.in-Err.status c.in-Err.ensures.statuses) refl
-
-pub returns-in-Err-clause-opened : goal.returns-in-Err-clause-opened
-returns-in-Err-clause-opened g c = λ form told. inl (ended_in_attributes (g.A.Source.left c.args.attributes.now) c.in-Err.status c.in-Err.ensures.says (ended_so c.in-Err.status c.in-Err.ensures.statuses))
-
-pub returns-in-Err-clause-ran : goal.returns-in-Err-clause-ran
-returns-in-Err-clause-ran g c = λ found told form is. inl (ended_in_attributes (g.A.Source.left c.args.attributes.now) c.in-Err.status c.in-Err.ensures.says (ended_so c.in-Err.status c.in-Err.ensures.statuses))
-
-pub returns-in-Err-clause-complete_run : goal.returns-in-Err-clause-complete_run
-returns-in-Err-clause-complete_run g c = λ bytes text settings found known form script told says is place short no_script no_attributes no_sink no_logs.
-    ended_complete c.in-Err.status _ settings (ended_so c.in-Err.status c.in-Err.ensures.statuses) (c.in-Err.ensures.only text (Ok settings) told says) (λ is. c.in-Err.ensures.fault.failed (ap (λ (status : Status). Err status) is)) no_attributes
-
-pub returns-in-Err-clause-complete_create : goal.returns-in-Err-clause-complete_create
-returns-in-Err-clause-complete_create g c = λ text settings known form told says none no_attributes no_sink no_logs.
-    ended_complete c.in-Err.status _ settings (ended_so c.in-Err.status c.in-Err.ensures.statuses) (c.in-Err.ensures.only text (Ok settings) told says) (λ is. c.in-Err.ensures.fault.failed (ap (λ (status : Status). Err status) is)) no_attributes
-
-pub returns-in-Create-clause-bad_attribute : goal.returns-in-Create-clause-bad_attribute
-returns-in-Create-clause-bad_attribute g c = λ form text name told says. absurd (said_not_bad name c.in-Ok.settings (c.in-Ok.ensures.only text (Err name) told says))
-
-pub returns-in-Run-clause-bad_attribute : goal.returns-in-Run-clause-bad_attribute
-returns-in-Run-clause-bad_attribute g c = λ form text name told says. absurd (said_not_bad name c.in-Ok.settings (c.in-Ok.ensures.only text (Err name) told says))
-
-pub returns-in-Run-clause-opened : goal.returns-in-Run-clause-opened
-returns-in-Run-clause-opened g c = λ form told. inr (c.in-Ok.settings, are_settings (g.A.Source.left c.args.attributes.now) c.in-Ok.settings c.in-Ok.ensures.range c.in-Ok.ensures.says, c.run_script.ensures.opened told)
-
-pub returns-in-Run-clause-ran : goal.returns-in-Run-clause-ran
-returns-in-Run-clause-ran g c = λ found told form is. inr (c.in-Ok.settings, are_settings (g.A.Source.left c.args.attributes.now) c.in-Ok.settings c.in-Ok.ensures.range c.in-Ok.ensures.says, c.run_script.ensures.ran found told is)
-
-pub returns-in-Create-clause-created : goal.returns-in-Create-clause-created
-returns-in-Create-clause-created g c = λ form told. inr (c.create.ensures.created told)
-
-pub returns-in-Run-clause-complete_run : goal.returns-in-Run-clause-complete_run
-returns-in-Run-clause-complete_run g c = λ bytes text settings found known form script told says is place short no_script no_attributes no_sink no_logs.
-    let same = same_settings settings c.in-Ok.settings (c.in-Ok.ensures.only text (Ok settings) told says) in
-    let settled : Type 0 = LogsAreSettled (g.L.Volume.now c.args.logs.now) (g.L.Volume.may c.args.logs.now) in
-    let untouched : Type 0 = (c.run_script.new.script ≡ c.args.script.now) × (c.run_script.new.sink ≡ c.args.sink.now) × ChangesFrom found.end.file (g.L.Volume.now c.args.logs.now) (g.L.Volume.now c.run_script.new.logs) (g.L.Volume.may c.args.logs.now) (g.L.Volume.may c.run_script.new.logs) in
-    completes g.L.Volume (g.S.Source.left c.args.script.now) bytes (g.S.Source.left c.run_script.new.script) c.in-Ok.settings found (begun_over c.in-Ok.settings (g.L.Volume.now c.args.logs.now) found) (g.K.Sink.given c.args.sink.now) (g.K.Sink.given c.run_script.new.sink) c.run_script.result settled untouched
-    c.args.logs.now c.run_script.new.logs _ _ _ script (c.run_script.ensures.ran found known is)
-    (subst (λ (r : Result Opened OpenRefusal). IsOpened c.in-Ok.settings r c.run_script.result) is (c.run_script.ensures.opened known)) c.run_script.ensures.statuses c.run_script.ensures.script_fault.failed c.run_script.ensures.sink_fault.failed c.run_script.ensures.logs_fault.failed
-    (subst (λ (s : Settings). IsSome (mark_place s found)) same place) short no_script no_sink no_logs
-
-pub returns-in-Create-clause-unbegun : goal.returns-in-Create-clause-unbegun
-returns-in-Create-clause-unbegun g c = λ before. let same = c.create.ensures.unbegun (out_before c.create.result _ before) in (refl, same.0, same.1)
-
-pub returns-in-Run-clause-unbegun : goal.returns-in-Run-clause-unbegun
-returns-in-Run-clause-unbegun g c = λ before. c.run_script.ensures.unbegun (out_before c.run_script.result _ before)
+pub returns-in-Run-clause-runs : goal.returns-in-Run-clause-runs
+returns-in-Run-clause-runs g c = λ asks. record {
+  ran = λ told. inr (
+      c.in-Ok.settings,
+      are_settings (g.A.Source.left c.args.devices.now.attributes) c.in-Ok.settings c.in-Ok.ensures.range c.in-Ok.ensures.says,
+      runs_from g.S.Source g.A.Source g.K.Sink g.L.Volume c.args.devices.now c.settings_of.new.attributes c.run_script.result c.in-Ok.settings c.run_script.new.devices (c.run_script.ensures.ran told),
+    );
+  refused = λ refusal told is. nothing_from g.S.Source g.A.Source g.K.Sink g.L.Volume c.args.devices.now c.settings_of.new.attributes c.run_script.result c.run_script.new.devices (c.run_script.ensures.refused refusal told is);
+  complete = λ bytes text settings found told script short given says is place no_script no_attributes no_sink no_logs.
+      completes g.S.Source g.K.Sink g.L.Volume c.in-Ok.settings found c.args.devices.now c.run_script.new.devices c.run_script.result bytes
+      (SourceFailed g.S.Source c.args.devices.now.script c.run_script.new.devices.script) (SinkFailed g.K.Sink c.args.devices.now.sink c.run_script.new.devices.sink) (VolumeFailed g.L.Volume c.args.devices.now.logs c.run_script.new.devices.logs)
+      (runs_from g.S.Source g.A.Source g.K.Sink g.L.Volume c.args.devices.now c.settings_of.new.attributes c.run_script.result c.in-Ok.settings c.run_script.new.devices (c.run_script.ensures.ran told)) is
+      (subst (λ (s : Settings). IsSome (mark_place s found)) (same_settings settings c.in-Ok.settings (c.in-Ok.ensures.only text (Ok settings) given says)) place) script short
+      c.run_script.ensures.script_fault.failed c.run_script.ensures.sink_fault.failed c.run_script.ensures.logs_fault.failed no_script no_sink no_logs;
+}

@@ -2,7 +2,7 @@ use Rattle.std.proofs.Common.{◌∙◌, Ok, Err, None, ap, refl}
 use Rattle.tt_flow.specs.declared.lines.LineRead.{LineRead}
 use Rattle.tt_flow.specs.declared.lines.LineRead.TheVariants.{Line, TooLong, End, ScriptTooLong}
 use Rattle.tt_run.proofs.RunLemmas.{asked_next, asked_not_skipped, failed_next, next_reads, skipped_next}
-use Rattle.tt_run.proofs.top_call.next_line.Goals as goal
+use Rattle.tt_run.proofs.script_run.ScriptRun.next_line.Goals as goal
 
 pub returns-in-Ok-TooLong-clause-read : goal.returns-in-Ok-TooLong-clause-read
 returns-in-Ok-TooLong-clause-read g c = λ script given has. (
