@@ -23,8 +23,9 @@ refused_by files e (inr (inr is)) = inr (inr (refused_opening files e is))
 pub returns-in-Err-clause-refused : goal.returns-in-Err-clause-refused
 returns-in-Err-clause-refused g c told = refused_by (g.V.Volume.now c.args.volume.now) c.in-Err.refusal (c.in-Err.ensures.refused told)
 
-pub returns-clause-found : goal.returns-clause-found
-returns-clause-found g c told =
+pub returns-clause-recovered : goal.returns-clause-recovered
+returns-clause-recovered g c = record {
+  found = λ told.
     let old = g.V.Volume.now c.args.volume.now in
     let now = g.V.Volume.now c.start_with.new.volume in
     let log = c.in-Ok.log in
@@ -38,4 +39,7 @@ returns-clause-found g c told =
     (λ q. c.in-Ok-finish.ensures.found (newest_first (entries_in (log_of 0 old))) read q ∙ ap (λ (t : Trail). standing no_cells t q) all)
     (c.next_transaction-next_transaction.ensures.next ∙ read.next ∙ ap (next_number 1) all)
     (ap (position (current_file_of log)) none ∙ sym open_log.end)
-    c.in-Ok.ensures.empty
+    c.in-Ok.ensures.empty;
+  ready = c.in-Ok.ensures.opened.ready;
+  kept = c.in-Ok.ensures.opened.kept;
+}
