@@ -13,15 +13,12 @@ use Rattle.tt_log.specs.declared.log.Log.{Log}
 use Rattle.tt_log.specs.Walk.{log_of, no_switch, is_switch}
 use Rattle.tt_record.specs.Place.{position}
 use Rattle.tt_log.specs.Log.{IsOpen, Puts, unforced, or_none, begins_file, forces_earlier, walk_end}
-use Rattle.tt_log.proofs.Sums.{total_more}
+use Rattle.tt_log.proofs.Sums.{total_more, not_le}
 use Rattle.tt_log.proofs.Forcing.{no_entries}
 use Rattle.tt_disk.specs.Volume.{Files, Outcomes}
 
 pub none_left : (log : Log) → log.buffered ≡ 0 → unforced log ≡ []
 none_left log none = ap (λ (k : ℕ). or_none (entries_of (take k log.buffer.items))) none ∙ ap or_none no_entries
-
-not_le : (a b : ℕ) → b < a → nat_le a b ≡ false
-not_le a b below = grind (arith, nat_tests)
 
 pub file_forces : (log : Log) (e : Entry) → log.file_size < log.forced_bytes + log.buffered + length_of e → forces_earlier log e ≡ true
 file_forces log e past = ap (λ (b : Bool). not b || nat_lt (length log.buffer.items) (log.buffered + length_of e)) (not_le (log.forced_bytes + log.buffered + length_of e) log.file_size past)

@@ -4,9 +4,7 @@ use Rattle.std.proofs.lemmas.Bool.Decides.{nat_tests}
 use Rattle.tt_value.specs.declared.position.Position.{Position}
 use Rattle.tt_record.specs.Place.{position, end_of, position_of}
 use Rattle.tt_log.specs.Placement.{placed_then, all_placed}
-
-not_le : (a b : ℕ) → b < a → nat_le a b ≡ false
-not_le a b below = grind (arith, nat_tests)
+use Rattle.tt_log.proofs.Sums.{not_le}
 
 abbrev chosen : Bool → Position → Position
 chosen fits end = if fits then end else position (end.file + 1) 0

@@ -14,10 +14,7 @@ use Rattle.tt_log.specs.Walk.{LogContents, file_read, placed, in_front, on_part,
 use Rattle.tt_log.specs.Batch.{IsRefused}
 use Rattle.tt_log.specs.Opening.{has_place, where_place, started}
 use Rattle.tt_log.specs.File.{IsEnd, HasEnd, IsFileEnd, FoundEnd, IsFollowed}
-use Rattle.tt_log.proofs.Walks.{in_front_twice}
-
-abbrev pub Standing : Type 0
-Standing = Result LogContents LogRefusal
+use Rattle.tt_log.proofs.Walks.{in_front_twice, Standing}
 
 fuel : (most n : ℕ) (files : Files) → 1000000 - n ≡ suc most → 1000000 - (n + 1) ≡ most → walk (1000000 - n) n files ≡ on_part n (file_read n (files (Log n))) (walk (1000000 - (n + 1)) (n + 1) files)
 fuel most n files one two = ap (λ (k : ℕ). walk k n files) one ∙ ap (λ (k : ℕ). on_part n (file_read n (files (Log n))) (walk k (n + 1) files)) (sym two)

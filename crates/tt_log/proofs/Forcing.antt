@@ -3,6 +3,7 @@ use Rattle.std.proofs.Common.{◌≡◌, ◌≤◌, ◌+◌, ◌⊎◌, inl, inr
 use Rattle.std.specs.Prelude.{IsOk}
 use Rattle.std.proofs.lemmas.List.{append-nil}
 use Rattle.tt_disk.specs.declared.volume.Name.{Name}
+use Rattle.tt_log.proofs.Walks.{Standing}
 use Rattle.tt_disk.specs.declared.volume.Name.TheVariants.{Log as LogFile}
 use Rattle.tt_disk.specs.Volume.{IsSettled, bytes_of, OnlyAt, Files, Outcomes, File}
 use Rattle.tt_gate.specs.declared.gate.GateFile.{GateFile}
@@ -20,9 +21,6 @@ use Rattle.tt_log.specs.Log.{IsOpen, CrashLeavesLog, MayLeave, unforced, walk_en
 use Rattle.tt_log.specs.declared.log.Log.{Log}
 use Rattle.tt_record.specs.BodyLaws.{body_is_read}
 use Rattle.tt_log.proofs.Crash.{Around, more_in, left_same, left_more, all_left}
-
-abbrev Standing : Type 0
-Standing = Result LogContents LogRefusal
 
 pub record IsFound (r : Standing) (m base : ℕ) : Type 0 where
   pub found : LogContents

@@ -10,10 +10,9 @@ use Rattle.tt_log.specs.declared.refusal.LogRefusal.{LogRefusal}
 use Rattle.tt_log.specs.Walk.{LogContents, Part, placed, in_front, log_of, is_from, is_since, since}
 use Rattle.tt_log.specs.Log.{IsWhole, entries_in, walk_end, forced_of}
 use Rattle.tt_log.specs.Scan.{waiting, gate_offset, part_left, joined_from, ahead, IsScanning, from_here, left, Gives}
-use Rattle.tt_log.proofs.Following.{Standing}
 use Rattle.tt_log.proofs.Forcing.{is_found}
-use Rattle.tt_log.proofs.Purge.{log_later, since_forced}
-use Rattle.tt_log.proofs.Walks.{last_of}
+use Rattle.tt_log.proofs.Purge.{log_later, since_end, since_forced}
+use Rattle.tt_log.proofs.Walks.{last_of, Standing}
 use Rattle.tt_log.proofs.Scanning.{start_ahead, switched_going}
 use Rattle.tt_disk.specs.Volume.{Files}
 
@@ -110,10 +109,6 @@ new_ahead s log now w begun all offset low high top =
     let f = is_found (log_of log.first_file now) log.current_file log.forced_bytes w.0 w.1 in
     start_ahead s now begun all offset (omega (arith, high, top))
     ∙ log_later log.first_file s.file log.current_file now f.found low high f.is f.at ∙ ap (since s.file) (sym f.is)
-
-since_end : (k : ℕ) (r : Standing) → IsOk r → (IsOk (since k r)) × (walk_end (since k r) ≡ walk_end r)
-since_end k (Ok found) is = (refl, refl)
-since_end k (Err e) is = absurd (let bad = is in cc)
 
 pub new_scanning : (s : Scan) (log : Log) (now : Files) → IsWhole log now → s.begun ≡ false → s.at ≡ length s.body.items → s.offset ≡ 0 → s.gate ≡ 16 → log.first_file ≤ s.file → log.current_file < 1000000 → IsScanning s log now
 new_scanning s log now w begun all offset gate low top high =

@@ -4,6 +4,7 @@ use Rattle.std.proofs.lemmas.Bool.{le-leb, cases_eq}
 use Rattle.std.proofs.lemmas.Bool.Decides.{nat_tests}
 use Rattle.std.proofs.lemmas.List.Elements.{filter-append}
 use Rattle.tt_disk.specs.declared.volume.Name.TheVariants.{Log}
+use Rattle.tt_log.proofs.Sums.{not_le}
 use Rattle.tt_disk.specs.Volume.{Files}
 use Rattle.tt_record.specs.declared.entry.Entry.{Entry}
 use Rattle.tt_value.specs.declared.position.Position.{Position}
@@ -18,9 +19,6 @@ found_ok found = Ok found
 
 pub same_found : (x y : LogContents) → found_ok x ≡ found_ok y → x ≡ y
 same_found x y is = cc
-
-not_le : (a b : ℕ) → b < a → nat_le a b ≡ false
-not_le a b below = grind (arith, nat_tests)
 
 none_since : (k n at : ℕ) (es : List Entry) → n < k → filter (is_since k) (placed n at es) ≡ []
 none_since k n at [] below = refl

@@ -12,8 +12,8 @@ use Rattle.tt_log.specs.Walk.{log_of, no_switch}
 use Rattle.tt_log.specs.Log.{IsOpen, walk_end}
 use Rattle.tt_log.specs.File.{FoundEnd}
 use Rattle.tt_log.proofs.Adding.{none_left}
-use Rattle.tt_log.proofs.Following.{Standing}
 use Rattle.tt_disk.specs.Volume.{Files, Outcomes}
+use Rattle.tt_log.proofs.Walks.{Standing}
 
 pub opened : (log : Log) (now : Files) (may : Outcomes) → IsReady log.file now may → log.file.staged ≡ 0 → log.buffered ≡ 0 → FoundEnd (log_of log.first_file now) (position log.current_file log.forced_bytes) → IsOpen log now may
 opened log now may ready fresh used f =

@@ -42,16 +42,3 @@ one_more false k n old new may may' is only was there apart =
 pub next_added : (n : ℕ) (old new : Files) (may may' : Outcomes) → OnlyTwo (LogFile n) (LogFile (n + 1)) old new may may' → is_some (old (LogFile n)) ≡ true → is_some (new (LogFile n)) ≡ true → is_some (new (LogFile (n + 1))) ≡ true → AddsFile (n + 1) old new
 next_added n old new may may' only was there next k =
     at_number (nat_eq k (n + 1)) k (n + 1) old new refl next (λ apart. one_more (nat_eq k n) k n old new may may' refl only was there apart)
-
--- two facts of a call that went well
-pub both_ok : {T E : Type 0} {P Q R : Type 0} (r : Result T E) → (P → Q → R) → OnOk r P → OnOk r Q → OnOk r R
-both_ok (Ok x) f p q = f p q
-both_ok (Err e) f p q = tt
-
-pub whichever_fails : {T E : Type 0} {P : Type 0} (r : Result T E) → P → OnErr r P
-whichever_fails (Ok x) p = tt
-whichever_fails (Err e) p = p
-
--- a failure after all entries were forced
-pub failed_forced : {T E : Type 0} (old new : Log) (r : Result T E) → IsForced old new → OnErr r (StandsStill old new ⊎ IsForced old new)
-failed_forced old new r forced = whichever_fails r (inr forced)

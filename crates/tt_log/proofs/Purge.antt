@@ -2,6 +2,7 @@
 use Rattle.std.proofs.Common.{◌≡◌, ◌≤◌, ◌<◌, ◌+◌, ◌-◌, ◌&&◌, ℕ, zero, suc, List, take, filter, refl, sym, ap, ◌∙◌, subst, Bool, true, false, arith, Result, Ok, Err, nat_le, nat_lt, if◌then◌else◌}
 use Rattle.std.proofs.lemmas.Bool.Decides.{nat_tests}
 use Rattle.tt_disk.specs.declared.volume.Name.{Name}
+use Rattle.tt_log.proofs.Sums.{not_le}
 use Rattle.tt_disk.specs.declared.volume.Name.TheVariants.{Log as LogFile}
 use Rattle.tt_log.specs.declared.refusal.LogRefusal.{LogRefusal}
 use Rattle.tt_log.specs.Walk.{LogContents, file_read, on_part, walk, log_of, since, is_since, no_switch}
@@ -36,9 +37,6 @@ range_apart from end old files n out = ap (λ (b : Bool). if b then old n else f
 
 pub out_low : (from end k : ℕ) → k < from → is_between from end (LogFile k) ≡ false
 out_low from end k low = ap (λ (b : Bool). b && nat_lt k end) (not_le from k low)
-  where
-    not_le : (a b : ℕ) → b < a → nat_le a b ≡ false
-    not_le a b below = grind (arith, nat_tests)
 
 and_false : (b : Bool) → (b && false) ≡ false
 and_false true = refl
@@ -97,6 +95,10 @@ pub record Removed (log : Log) (k : ℕ) (old new : Files) (may may' : Outcomes)
   pub shrunk : Shrunk log.first_file k old new may may'
   pub ready : IsReady log.file new may'
 
+pub since_end : (k : ℕ) (r : Result LogContents LogRefusal) → IsOk r → IsOk (since k r) × (walk_end (since k r) ≡ walk_end r)
+since_end k (Ok found) is = (refl, refl)
+since_end k (Err e) is = cc
+
 pub removed_open : (log log' : Log) (now now' : Files) (may may' : Outcomes) → IsOpen log now may → Removed log log'.first_file now now' may may' → log'.file ≡ log.file → log'.current_file ≡ log.current_file → log'.forced_bytes ≡ log.forced_bytes → log'.buffered ≡ log.buffered → log'.buffer ≡ log.buffer → IsOpen log' now' may'
 removed_open log log' now now' may may' o r file number base used buffer =
     let ends = since_end log'.first_file (log_of log.first_file now) o.whole in
@@ -111,10 +113,6 @@ removed_open log log' now now' may may' o r file number base used buffer =
       whole = subst (λ r. IsOk r) (sym r.shrunk.now) ends.0;
       end = ap walk_end r.shrunk.now ∙ ends.1 ∙ o.end ∙ ap (λ (k : ℕ). position k log.forced_bytes) (sym number) ∙ ap (λ (k : ℕ). position log'.current_file k) (sym base);
     }
-  where
-    since_end : (k : ℕ) (r : Result LogContents LogRefusal) → IsOk r → IsOk (since k r) × (walk_end (since k r) ≡ walk_end r)
-    since_end k (Ok found) is = (refl, refl)
-    since_end k (Err e) is = cc
 
 pub since_forced : (k : ℕ) (r : Result LogContents LogRefusal) → entries_in (since k r) ≡ filter (is_since k) (entries_in r)
 since_forced k (Ok found) = refl

@@ -30,13 +30,8 @@ Bytes = Vec ℕ Global
 abbrev Answer : Type 0
 Answer = Result Batch LogRefusal
 
-pub is_closed : (n gate offset : ℕ) (file : File) (r : Answer) (b : Batch) → IsBatch n gate offset file r → r ≡ Ok b → b ≡ Closed → rest_read n gate offset file ≡ Ok ([], false)
-is_closed n gate offset file r b says is one =
-    let P : Answer → Type 0 = λ q. IsBatch n gate offset file q in
-    subst P (is ∙ ap (λ (k : Batch). Ok k) one) says
-
-pub is_switched : (n gate offset : ℕ) (file : File) (r : Answer) (b : Batch) → IsBatch n gate offset file r → r ≡ Ok b → b ≡ Switched → rest_read n gate offset file ≡ Ok ([], true)
-is_switched n gate offset file r b says is one =
+pub batch_is : (n gate offset : ℕ) (file : File) (r : Answer) (b : Batch) {want : Batch} → IsBatch n gate offset file r → r ≡ Ok b → b ≡ want → IsBatch n gate offset file (Ok want)
+batch_is n gate offset file r b says is one =
     let P : Answer → Type 0 = λ q. IsBatch n gate offset file q in
     subst P (is ∙ ap (λ (k : Batch). Ok k) one) says
 
@@ -84,11 +79,6 @@ at_start wanted n file at headed gate offset starts = record {
   starts = starts;
 }
 
-pub is_plain : (n gate offset : ℕ) (file : File) (r : Answer) (b : Batch) (body : Bytes) → IsBatch n gate offset file r → r ≡ Ok b → b ≡ Entries body → IsPlain n gate offset file body.items
-is_plain n gate offset file r b body says is one =
-    let P : Answer → Type 0 = λ q. IsBatch n gate offset file q in
-    subst P (is ∙ ap (λ (k : Batch). Ok k) one) says
-
 -- the closed gate that ends a file
 pub closes_at : (wanted n : ℕ) (file : File) (at : FileCursor) (end : FileEnd) (b : Batch) → IsReached wanted n file at → GateSays at.gate file b → b ≡ Closed → end.gate ≡ at.gate → Closes file end
 closes_at wanted n file at end b r says one here switched = subst (λ (k : ℕ). IsGateEnd file k) (sym here) (last_gate file at.gate r.gate (subst (λ (k : Batch). GateSays at.gate file k) one says))
@@ -102,14 +92,7 @@ closes_same file other end closes same = subst (λ o. Closes o end) same closes
 pub end_closes : (file other : File) (w : BatchStep) (end : FileEnd) → ClosesIfEnded file w → w ≡ Ends end → file ≡ other → Closes other end
 end_closes file other w end closes one same = closes_same file other end (subst (λ (k : BatchStep). ClosesIfEnded file k) one closes) same
 
-pub gone_on : (wanted n : ℕ) (file other : File) (r : Result BatchStep LogRefusal) (w : BatchStep) (next : FileCursor) → HasRead wanted n file r → r ≡ Ok w → w ≡ On next → file ≡ other → IsReached wanted n other next
-gone_on wanted n file other r w next says is one same =
+pub read_is : (wanted n : ℕ) (file other : File) (r : Result BatchStep LogRefusal) (w : BatchStep) {want : BatchStep} → HasRead wanted n file r → r ≡ Ok w → w ≡ want → file ≡ other → HasRead wanted n other (Ok want)
+read_is wanted n file other r w {want} says is one same =
     let P : Result BatchStep LogRefusal → Type 0 = λ q. HasRead wanted n file q in
-    let h : IsReached wanted n file next = subst P (is ∙ ap (λ (k : BatchStep). Ok k) one) says in
-    subst (λ o. IsReached wanted n o next) same h
-
-pub gone_ends : (wanted n : ℕ) (file other : File) (r : Result BatchStep LogRefusal) (w : BatchStep) (end : FileEnd) → HasRead wanted n file r → r ≡ Ok w → w ≡ Ends end → file ≡ other → HasEnd wanted (rest_read n 16 0 other) end
-gone_ends wanted n file other r w end says is one same =
-    let P : Result BatchStep LogRefusal → Type 0 = λ q. HasRead wanted n file q in
-    let h : HasEnd wanted (rest_read n 16 0 file) end = subst P (is ∙ ap (λ (k : BatchStep). Ok k) one) says in
-    subst (λ o. HasEnd wanted (rest_read n 16 0 o) end) same h
+    subst (λ o. HasRead wanted n o (Ok want)) same (subst P (is ∙ ap (λ (k : BatchStep). Ok k) one) says)

@@ -2,6 +2,7 @@
 use Rattle.std.proofs.Common.{◌≡◌, ◌⊎◌, inl, inr, ℕ, ◌+◌, ◌<◌, ◌≤◌, Bool, true, false, nat_le, List, [], ◌∷◌, length, Option, Some, None, Result, Ok, Err, refl, sym, ◌∙◌, ap, subst, arith, if◌then◌else◌, le-leb, length-append}
 use Rattle.std.proofs.lemmas.Bool.Decides.{nat_tests}
 use Rattle.tt_disk.specs.Volume.{size_of, bytes_of, File}
+use Rattle.tt_log.proofs.Sums.{not_le}
 use Rattle.tt_gate.specs.declared.gate.Gate.{Gate}
 use Rattle.tt_gate.specs.declared.gate.Gate.TheVariants.{Closed as Shut, Full}
 use Rattle.tt_gate.specs.declared.gate.GateRefusal.{GateRefusal}
@@ -145,9 +146,6 @@ long_read body es bytes is = let b = read_is_body body es bytes is in long_body 
 plain_then : (n at next offset count : ℕ) (o : Option (List Entry)) (last : Bool) (more : Part) (w : WasEntries o count) → batch_read n at next offset o last more ≡ (if nat_le (offset + total w.es) file_most then before w.es more else Err (BadBatch n at))
 plain_then n at next offset count o last more w =
     ap (λ p. batch_read n at next offset p last more) w.is ∙ ap (λ (b : Bool). chosen b (switches n w.es) last w.es n at next offset more) w.plain
-
-not_le : (a b : ℕ) → b < a → nat_le a b ≡ false
-not_le a b below = grind (arith, nat_tests)
 
 pub batch_over : (n gate offset count : ℕ) (body : List ℕ) (o : File) → IsHeaded n o → IsFull gate body o → AreBytes body → body_in n (entries_of body) ≡ Entries count → file_most < offset + length body
     → rest_read n gate offset o ≡ Err (BadBatch n gate)

@@ -21,8 +21,8 @@ use Rattle.tt_log.specs.Scan.{waiting, gate_offset, part_left, joined_from, ahea
 use Rattle.tt_log.proofs.Sums.{total_more}
 use Rattle.tt_log.proofs.Heads.{file_headed}
 use Rattle.tt_log.proofs.Later.{found_ok}
-use Rattle.tt_log.proofs.Walks.{placed_more, in_front_twice}
-use Rattle.tt_log.proofs.Following.{Standing, log_step}
+use Rattle.tt_log.proofs.Walks.{placed_more, in_front_twice, Standing}
+use Rattle.tt_log.proofs.Following.{log_step}
 
 pub same_files : (a b : Files) (may_a may_b : Outcomes) → Keeps a b may_a may_b → b ≡ a
 same_files a b may_a may_b keeps = λ i n. keeps.reads n i

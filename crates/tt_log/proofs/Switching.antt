@@ -3,6 +3,7 @@ use Rattle.std.proofs.Common.{◌≡◌, ◌≤◌, ◌<◌, ◌+◌, ◌-◌, �
 use Rattle.std.specs.Prelude.{IsOk}
 use Rattle.std.proofs.lemmas.Bool.{eq-eqb, lt-ltb}
 use Rattle.tt_disk.specs.declared.volume.Name.{Name}
+use Rattle.tt_log.proofs.Walks.{Standing}
 use Rattle.tt_disk.specs.declared.volume.Name.TheVariants.{Log as LogFile}
 use Rattle.tt_disk.specs.Volume.{IsSettled, size_of, OnlyAt, Files, Outcomes, File}
 use Rattle.tt_gate.specs.declared.gate.GateFile.{GateFile}
@@ -18,7 +19,6 @@ use Rattle.tt_log.specs.Log.{MayLeave, CrashLeavesLog, CrashLeavesForced, OnlyTw
 use Rattle.tt_log.proofs.Crash.{Around, put_log, put_apart, put_left, same_in, switched_in, left_switched}
 use Rattle.tt_log.proofs.FileParts.{file_made}
 use Rattle.tt_log.proofs.Forcing.{IsFound, Written, one_or_more}
-use Rattle.tt_log.proofs.Following.{Standing}
 
 -- a gate file of which nothing changed
 pub ready_same : (file : GateFile) (now now' : Files) (may may' : Outcomes) → now' file.name ≡ now file.name → ((c : File) → may' file.name c → may file.name c) → IsReady file now may → IsReady file now' may'

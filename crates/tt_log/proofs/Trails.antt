@@ -11,12 +11,9 @@ use Rattle.tt_log.specs.declared.log.Log.{Log}
 use Rattle.tt_log.specs.declared.refusal.LogRefusal.{LogRefusal}
 use Rattle.tt_log.specs.Walk.{LogContents, placed, log_of, with_more, switched}
 use Rattle.tt_log.specs.Log.{MayLeave, CrashLeavesAll, IsOpen, Gave, unforced, write_position_of, walk_end, entries_in, forces_earlier, room_made, forced_of, trail_of}
-use Rattle.tt_log.proofs.Walks.{placed_more}
+use Rattle.tt_log.proofs.Walks.{placed_more, Standing}
 use Rattle.tt_log.proofs.Forcing.{more_end, more_none}
 use Rattle.tt_disk.specs.Volume.{Files, Outcomes}
-
-abbrev Standing : Type 0
-Standing = Result LogContents LogRefusal
 
 -- what with_more adds, by where the walk ended
 more_entries : (r : Standing) (at : Position) (es : List Entry) → IsOk r → walk_end r ≡ at → entries_in (with_more es r) ≡ entries_in r ++ placed at.file at.offset es

@@ -78,14 +78,8 @@ up_to_more n old mid new a b c file x y = record {
       (takes_then old mid new (placed n a.offset x.es) (placed n b.offset y.es) x.takes y.takes);
 }
 
-pub went_on : {T : Type 0} (visited : T → Took) (a b : T) (n : ℕ) (at next : FileCursor) (file : File) (r : Result BatchStep LogRefusal) (w : BatchStep) → VisitsBatch n visited a b at r file → r ≡ Ok w → w ≡ On next → VisitsUpTo n (visited a) (visited b) at next file
-went_on visited a b n at next file r w says is one =
-    let P : Result BatchStep LogRefusal → Type 0 = λ q. VisitsBatch n visited a b at q file in
-    subst P (is ∙ ap (λ (k : BatchStep). Ok k) one) says
-
-pub went_to_end : {T : Type 0} (visited : T → Took) (a b : T) (n : ℕ) (at : FileCursor) (end : FileEnd) (file : File) (r : Result BatchStep LogRefusal) (w : BatchStep) → VisitsBatch n visited a b at r file → r ≡ Ok w → w ≡ Ends end
-    → (rest_read n at.gate at.offset file ≡ Ok ([], end.switched)) × Visits (visited a) (visited b) []
-went_to_end visited a b n at end file r w says is one =
+pub visited_is : {T : Type 0} (visited : T → Took) (a b : T) (n : ℕ) (at : FileCursor) (file : File) (r : Result BatchStep LogRefusal) (w : BatchStep) {want : BatchStep} → VisitsBatch n visited a b at r file → r ≡ Ok w → w ≡ want → VisitsBatch n visited a b at (Ok want) file
+visited_is visited a b n at file r w says is one =
     let P : Result BatchStep LogRefusal → Type 0 = λ q. VisitsBatch n visited a b at q file in
     subst P (is ∙ ap (λ (k : BatchStep). Ok k) one) says
 

@@ -13,6 +13,9 @@ use Rattle.tt_log.specs.Walk.{Part, file_read, LogContents, placed, in_front, on
 use Rattle.tt_record.specs.Place.{position}
 use Rattle.tt_log.proofs.Later.{found_ok, same_found}
 
+abbrev pub Standing : Type 0
+Standing = Result LogContents LogRefusal
+
 -- The walk up to its last file, and what is read there. Files that agree up to there lead to the same place.
 pub record LastOf (most n : ℕ) (files : Files) (found : LogContents) : Type 1 where
   pub front : List (Position × Entry)

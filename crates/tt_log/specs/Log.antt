@@ -70,10 +70,6 @@ abbrev pub KeepsSizes : Log → Log → Type 0
 KeepsSizes old new =
     (first_file_of new ≡ first_file_of old) × (file_size_of new ≡ file_size_of old) × (buffer_size_of new ≡ buffer_size_of old)
 
--- these are the sizes, in bytes, of a file's entries and of the buffer
-abbrev pub HasSizes : ℕ → ℕ → Log → Type 0
-HasSizes file_size buffer_size log = (file_size_of log ≡ file_size) × (buffer_size_of log ≡ buffer_size)
-
 -- the value says the same of its entries, positions, files and sizes
 pub record StandsStill (old new : Log) : Type 0 where
   pub sizes : KeepsSizes old new
@@ -120,7 +116,7 @@ HasRoomFor e log =
 -- A log that was just opened: where it begins, its sizes in bytes, and that all its entries are forced.
 pub record IsFresh (file file_size buffer_size : ℕ) (log : Log) : Type 0 where
   pub first : first_file_of log ≡ file
-  pub sizes : HasSizes file_size buffer_size log
+  pub sizes : (file_size_of log ≡ file_size) × (buffer_size_of log ≡ buffer_size)
   pub force : force_position_of log ≡ write_position_of log
   pub count : waiting_bytes log ≡ 0
 

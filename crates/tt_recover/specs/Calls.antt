@@ -13,19 +13,15 @@ use Rattle.tt_recover.specs.Recovery.{IsRecovered}
 abbrev pub IsOpenOn : {V : Type 0} → Ghosts V → Log → V → Type 0
 IsOpenOn g log volume = g.told → IsOpen log (g.now volume) (g.may volume)
 
--- what was recovered is what opening finds in the files
-abbrev pub RecoversOn : {V : Type 0} → Ghosts V → V → V → Result Recovered LogRefusal → Type 0
-RecoversOn g old new result = g.told → IfOk result (λ r. IsRecovered r (g.now old) (g.now new))
+-- A log that was recovered, and what it stands for in the files.
+pub record RecoversOn {V : Type 0} (g : Ghosts V) (old : V) (r : Recovered) (new : V) : Type 0 where
+  -- its rows and its next number are what opening finds in the files
+  pub found : g.told → IsRecovered r (g.now old) (g.now new)
+  -- the log's files stand as its last call left them
+  pub ready : IsOpenOn g r.log new
+  -- a crash leaves just what is forced, where one before left the log as it read
+  pub kept : g.told → CrashLeavesLog 0 (log_of 0 (g.now old)) (g.may old) → CrashLeavesForced r.log (g.now new) (g.may new)
 
 -- A refusal is the damage that opening finds, unless a call failed or memory was wanting.
 abbrev pub RefusesOn : {V : Type 0} → Ghosts V → V → Result Recovered LogRefusal → Type 0
 RefusesOn g old result = g.told → IfErr result (λ e. (e ≡ Failed) ⊎ ((e ≡ NoMemory) ⊎ (opening (g.now old) ≡ Err e)))
-
--- the log that was recovered is open
-abbrev pub OpensLogOn : {V : Type 0} → Ghosts V → V → Result Recovered LogRefusal → Type 0
-OpensLogOn g new result = g.told → IfOk result (λ r. IsOpen r.log (g.now new) (g.may new))
-
--- A crash leaves just what is forced, where one before left the log as it read.
-abbrev pub KeepsLogOn : {V : Type 0} → Ghosts V → V → V → Result Recovered LogRefusal → Type 0
-KeepsLogOn g old new result =
-    g.told → CrashLeavesLog 0 (log_of 0 (g.now old)) (g.may old) → IfOk result (λ r. CrashLeavesForced r.log (g.now new) (g.may new))

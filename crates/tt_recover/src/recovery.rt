@@ -2,16 +2,13 @@
 //! ended well.
 ghost use Rattle.std.specs.Prelude.{◌≡◌, ◌⊎◌, ◌≤◌, ◌^◌, length, IfOk, IfErr, IsErrOf, Err};
 ghost use Rattle.tt_record.specs.Limits.{transactions_end};
-ghost use Rattle.tt_recover.specs.Calls.{KeepsLogOn, OpensLogOn, RecoversOn, RefusesOn};
+ghost use Rattle.tt_recover.specs.Calls.{RecoversOn, RefusesOn};
 ghost use Rattle.tt_disk.specs.Calls.{KeepsFiles};
 ghost use Rattle.tt_disk.specs.Faults.{RoseWhere};
-ghost use Rattle.tt_disk.specs.Volume.{Keeps};
 ghost use Rattle.tt_log.specs.declared.refusal.LogRefusal.TheVariants.{Failed, NoMemory};
-ghost use Rattle.tt_log.specs.Walk.{log_of};
-ghost use Rattle.tt_log.specs.Log.{IsOpen, CrashLeavesForced, CrashLeavesLog, waiting_bytes, write_position_of, first_file_of, force_position_of, file_size_of, buffer_size_of};
-ghost use Rattle.tt_recover.specs.Opening.{opening};
+ghost use Rattle.tt_log.specs.Limits.{file_least, file_most, buffer_least, buffer_most};
+ghost use Rattle.tt_log.specs.Log.{IsFresh};
 ghost use Rattle.tt_recover.specs.Replay.{AreInOrder};
-ghost use Rattle.tt_recover.specs.Recovery.{IsRecovered};
 
 use crate::progress::Progress;
 use crate::replay::RecoveredRow;
@@ -39,20 +36,13 @@ pub fn recover<V: Volume>(
     log_file_size: u32,
     log_buf_size: u32,
 ) -> Result<Recovered, LogRefusal>
-    requires file_size { (8192 ≤ log_file_size) × (log_file_size ≤ 67108864) }
-    requires buffer_size { (4096 ≤ log_buf_size) × (log_buf_size ≤ 1048576) }
-    ensures found { RecoversOn V.Volume volume.old volume.new result }
+    requires file_size { (file_least ≤ log_file_size) × (log_file_size ≤ file_most) }
+    requires buffer_size { (buffer_least ≤ log_buf_size) × (log_buf_size ≤ buffer_most) }
+    ensures recovered { IfOk result (λ r. RecoversOn V.Volume volume.old r volume.new) }
+    ensures fresh { IfOk result (λ r. IsFresh 0 log_file_size log_buf_size r.log) }
     ensures refused { RefusesOn V.Volume volume.old result }
-    ensures open { OpensLogOn V.Volume volume.new result }
-
-    // Where every crash could leave the log as it reads, it still does.
-    ensures kept { KeepsLogOn V.Volume volume.old volume.new result }
     ensures ordered { IfOk result (λ r. AreInOrder r.rows.items) }
     ensures numbers { IfOk result (λ r. (1 ≤ r.next_transaction) × (r.next_transaction ≤ transactions_end)) }
-    ensures first { IfOk result (λ r. first_file_of r.log ≡ 0) }
-    ensures waiting { IfOk result (λ r. waiting_bytes r.log ≡ 0) }
-    ensures force { IfOk result (λ r. force_position_of r.log ≡ write_position_of r.log) }
-    ensures sizes { IfOk result (λ r. (file_size_of r.log ≡ log_file_size) × (buffer_size_of r.log ≡ log_buf_size)) }
     ensures keeps { KeepsFiles V.Volume volume.old volume.new }
     ensures cause { RoseWhere V.exact (IsErrOf result Failed) (V.faults volume.old) (V.faults volume.new) }
 {

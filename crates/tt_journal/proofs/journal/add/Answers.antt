@@ -23,8 +23,8 @@ returns-in-Ok-clause-rest g c ns fit =
     let size = (file_size_of c.args.log.now) in
     let n = length_of c.args.entry in
     let behind : lengths_fit size (end_of at n) ns ≡ true =
-    subst (λ (o : Option Position). (elim o [ None ↦ false | Some p ↦ lengths_fit size (end_of p n) ns ]) ≡ true) c.in-Ok.ensures.position fit in
-    ap (λ k. lengths_fit k (write_position_of c.append.new.self) ns) c.append.ensures.still.1 ∙ ap (λ p. lengths_fit size p ns) c.in-Ok.ensures.write ∙ behind
+    subst (λ (o : Option Position). (elim o [ None ↦ false | Some p ↦ lengths_fit size (end_of p n) ns ]) ≡ true) c.in-Ok.ensures.appended.place fit in
+    ap (λ k. lengths_fit k (write_position_of c.append.new.self) ns) c.append.ensures.appended.sizes.1 ∙ ap (λ p. lengths_fit size p ns) c.in-Ok.ensures.appended.write ∙ behind
 
 pub returns-in-Ok-clause-performed : goal.returns-in-Ok-clause-performed
 returns-in-Ok-clause-performed g c told =
@@ -32,23 +32,23 @@ returns-in-Ok-clause-performed g c told =
     let e = c.args.entry in
     let a : Added log c.append.new.self (g.V.Volume.now c.args.volume.now) (g.V.Volume.now c.append.new.volume) e c.in-Ok.field-0 =
     record {
-      place = c.in-Ok.ensures.position;
-      trail = c.in-Ok.ensures.trail told;
-      forced = c.in-Ok.ensures.forced told;
-      write = c.in-Ok.ensures.write;
-      force = c.in-Ok.ensures.force;
-      first = c.append.ensures.still.0;
-      size = c.append.ensures.still.1;
-      buffer = c.append.ensures.still.2;
-      files = c.in-Ok.ensures.files told;
+      place = c.in-Ok.ensures.appended.place;
+      trail = c.in-Ok.ensures.entries.trail told;
+      forced = c.in-Ok.ensures.entries.forced told;
+      write = c.in-Ok.ensures.appended.write;
+      force = c.in-Ok.ensures.appended.force;
+      first = c.append.ensures.appended.sizes.0;
+      size = c.append.ensures.appended.sizes.1;
+      buffer = c.append.ensures.appended.sizes.2;
+      files = c.in-Ok.ensures.entries.files told;
     } in
     record {
-      ready = c.in-Ok.ensures.open told;
+      ready = c.in-Ok.ensures.leaves.ready told;
       written = λ s h. record {
         stands = still_trail log c.append.new.self _ _ _ s e c.in-Ok.field-0 (c.requires.open told) h a;
-        kept = λ k. c.in-Ok.ensures.kept told k;
+        kept = λ k. c.in-Ok.ensures.leaves.kept told k;
         onward = (entry_follows e s h.bounds.1).onward;
-        quiet = λ q. c.append.ensures.quiet (quiet_stays log _ _ s e (c.requires.open told) h c.requires.entry.entry q);
+        quiet = λ q. c.append.ensures.moves.quiet (quiet_stays log _ _ s e (c.requires.open told) h c.requires.entry.entry q);
         others = changed_from log _ s _ _ _ _ h (two_change (current_file_of log) _ _ _ _ log.numbers (c.append.ensures.others told));
       };
       broken = λ s h. tt;
@@ -62,9 +62,9 @@ returns-clause-performed g c told =
       ready = tt;
       written = λ s h. tt;
       broken = λ s h. record {
-        crash = λ k. prefix_more s.forced s e (g.V.Volume.may c.append.new.volume) h.bounds.0 (left_prefix log _ _ (g.V.Volume.may c.append.new.volume) s (c.requires.open told) h (c.append.ensures.crash told k));
+        crash = λ k. prefix_more s.forced s e (g.V.Volume.may c.append.new.volume) h.bounds.0 (left_prefix log _ _ (g.V.Volume.may c.append.new.volume) s (c.requires.open told) h (c.append.ensures.leaves.crash told k));
         onward = (entry_follows e s h.bounds.1).onward;
-        moves = λ q. true≢false (sym c.in-Err.ensures.fails ∙ quiet_stays log _ _ s e (c.requires.open told) h c.requires.entry.entry q);
+        moves = λ q. true≢false (sym c.in-Err.ensures.moves.fails ∙ quiet_stays log _ _ s e (c.requires.open told) h c.requires.entry.entry q);
         others = changed_from log _ s _ _ _ _ h (two_change (current_file_of log) _ _ _ _ log.numbers (c.append.ensures.others told));
       };
     }

@@ -2,18 +2,18 @@ use Rattle.std.proofs.Common.{◌∙◌, ap, sym, subst, arith}
 use Rattle.tt_disk.specs.declared.volume.Name.TheVariants.{Log as LogFile}
 use Rattle.tt_disk.specs.Laws.{count_stays, keeps_then_keeps}
 use Rattle.tt_log.specs.Visitor.{VisitsUpTo, VisitsBatch, at_first}
-use Rattle.tt_log.proofs.Reaching.{gone_on, gone_ends, end_closes}
+use Rattle.tt_log.proofs.Reaching.{read_is, end_closes}
 use Rattle.tt_log.specs.Batch.{IsRefused, rest_read}
 use Rattle.tt_log.specs.File.{HasEnd}
 use Rattle.tt_log.specs.Walk.{Part}
 use Rattle.tt_log.proofs.Heads.{file_headed}
-use Rattle.tt_log.proofs.Visiting.{part_same, up_to_more, up_to_end, went_on, went_to_end}
+use Rattle.tt_log.proofs.Visiting.{part_same, up_to_more, up_to_end, visited_is}
 use Rattle.tt_log.proofs.file.read_batches.Goals as goal
 
 pub returns-in-Ok-Ends-clause-exact : goal.returns-in-Ok-Ends-clause-exact
 returns-in-Ok-Ends-clause-exact g c told =
     subst (λ (p : Part). HasEnd c.args.wanted p c.in-Ok-Ends.end) (sym (file_headed c.args.number _ (c.requires.headed told)))
-    (gone_ends c.args.wanted c.args.number _ _ c.read_next_batch.result c.in-Ok-Ends.field-0 c.in-Ok-Ends.end (c.read_next_batch.ensures.exact told) c.in-Ok-Ends.is c.in-Ok-Ends.field-0-is ((c.batches.invariant.keeps told).reads (LogFile c.args.number)))
+    (read_is c.args.wanted c.args.number _ _ c.read_next_batch.result c.in-Ok-Ends.field-0 (c.read_next_batch.ensures.exact told) c.in-Ok-Ends.is c.in-Ok-Ends.field-0-is ((c.batches.invariant.keeps told).reads (LogFile c.args.number)))
 
 pub returns-in-Err-clause-exact : goal.returns-in-Err-clause-exact
 returns-in-Err-clause-exact g c told =
@@ -36,11 +36,11 @@ batches-preserved g c =
       later = omega (arith, c.in-Ok-On.ensures.cause.later, c.batches.invariant.later);
       stays = λ exact. count_stays _ _ _ _ _ c.in-Ok-On.ensures.cause exact ∙ c.batches.invariant.stays exact;
       keeps = λ told. keeps_then_keeps _ _ _ _ _ _ (c.batches.invariant.keeps told) (c.read_next_batch.ensures.keeps told);
-      reached = λ told. gone_on c.args.wanted c.args.number _ _ c.read_next_batch.result c.in-Ok-On.field-0 c.in-Ok-On.next (c.read_next_batch.ensures.exact told) c.in-Ok-On.is c.in-Ok-On.field-0-is ((c.batches.invariant.keeps told).reads (LogFile c.args.number));
+      reached = λ told. read_is c.args.wanted c.args.number _ _ c.read_next_batch.result c.in-Ok-On.field-0 (c.read_next_batch.ensures.exact told) c.in-Ok-On.is c.in-Ok-On.field-0-is ((c.batches.invariant.keeps told).reads (LogFile c.args.number));
       given = λ told.
           up_to_more c.args.number old mid new at_first c.batches.at c.in-Ok-On.next (g.V.Volume.now c.args.volume.now (LogFile c.args.number)) (c.batches.invariant.given told)
           (subst (λ o. VisitsUpTo c.args.number mid new c.batches.at c.in-Ok-On.next o) ((c.batches.invariant.keeps told).reads (LogFile c.args.number))
-          (went_on g.T.EntryVisitor.visited c.batches.visitor c.read_next_batch.new.visitor c.args.number c.batches.at c.in-Ok-On.next _ c.read_next_batch.result c.in-Ok-On.field-0 (c.read_next_batch.ensures.given told) c.in-Ok-On.is c.in-Ok-On.field-0-is));
+          (visited_is g.T.EntryVisitor.visited c.batches.visitor c.read_next_batch.new.visitor c.args.number c.batches.at _ c.read_next_batch.result c.in-Ok-On.field-0 (c.read_next_batch.ensures.given told) c.in-Ok-On.is c.in-Ok-On.field-0-is));
     }
 
 pub returns-in-Ok-Ends-clause-given : goal.returns-in-Ok-Ends-clause-given
@@ -50,5 +50,5 @@ returns-in-Ok-Ends-clause-given g c told =
     let new = g.T.EntryVisitor.visited c.read_next_batch.new.visitor in
     part_same c.args.number old new _ _ (sym (file_headed c.args.number _ (c.requires.headed told)))
     (up_to_end c.args.number old mid new c.batches.at c.in-Ok-Ends.end (g.V.Volume.now c.args.volume.now (LogFile c.args.number)) (c.batches.invariant.given told)
-    (went_to_end g.T.EntryVisitor.visited c.batches.visitor c.read_next_batch.new.visitor c.args.number c.batches.at c.in-Ok-Ends.end _ c.read_next_batch.result c.in-Ok-Ends.field-0
+    (visited_is g.T.EntryVisitor.visited c.batches.visitor c.read_next_batch.new.visitor c.args.number c.batches.at _ c.read_next_batch.result c.in-Ok-Ends.field-0
     (subst (λ o. VisitsBatch c.args.number g.T.EntryVisitor.visited c.batches.visitor c.read_next_batch.new.visitor c.batches.at c.read_next_batch.result o) ((c.batches.invariant.keeps told).reads (LogFile c.args.number)) (c.read_next_batch.ensures.given told)) c.in-Ok-Ends.is c.in-Ok-Ends.field-0-is))

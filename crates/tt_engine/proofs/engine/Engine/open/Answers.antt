@@ -23,10 +23,10 @@ returns-in-Err-over-clause-opens g c told =
 pub returns-then-not-has_place-clause-opens : goal.returns-then-not-has_place-clause-opens
 returns-then-not-has_place-clause-opens g c told =
     let made : IsMade g.L.Volume c.args.settings.now c.args.logs.now c.recover.new.volume c.in-Ok.recovered c.in-Ok-over.engine = record {
-      ready = record { recovered = c.in-Ok.ensures.found told; over = c.in-Ok-over.ensures.over; first = c.in-Ok.ensures.first; force = c.in-Ok.ensures.force; sizes = c.in-Ok.ensures.sizes; reads = (c.recover.ensures.keeps told).reads };
+      ready = record { recovered = c.in-Ok.ensures.recovered.found told; over = c.in-Ok-over.ensures.over; first = c.in-Ok.ensures.fresh.first; force = c.in-Ok.ensures.fresh.force; sizes = c.in-Ok.ensures.fresh.sizes; reads = (c.recover.ensures.keeps told).reads };
       order = c.in-Ok.ensures.ordered;
       keeps = c.recover.ensures.keeps told;
-      kept = c.in-Ok.ensures.kept told;
+      kept = c.in-Ok.ensures.recovered.kept told;
     } in
     let log = c.in-Ok-over.engine.log in
     opens_out g.L.Volume c.args.settings.now c.args.logs.now c.recover.new.volume c.in-Ok.recovered c.in-Ok-over.engine made
@@ -35,10 +35,10 @@ returns-then-not-has_place-clause-opens g c told =
 pub returns-in-Ok-write-clause-opens : goal.returns-in-Ok-write-clause-opens
 returns-in-Ok-write-clause-opens g c told =
     let made : IsMade g.L.Volume c.args.settings.now c.args.logs.now c.recover.new.volume c.in-Ok.recovered c.in-Ok-over.engine = record {
-      ready = record { recovered = c.in-Ok.ensures.found told; over = c.in-Ok-over.ensures.over; first = c.in-Ok.ensures.first; force = c.in-Ok.ensures.force; sizes = c.in-Ok.ensures.sizes; reads = (c.recover.ensures.keeps told).reads };
+      ready = record { recovered = c.in-Ok.ensures.recovered.found told; over = c.in-Ok-over.ensures.over; first = c.in-Ok.ensures.fresh.first; force = c.in-Ok.ensures.fresh.force; sizes = c.in-Ok.ensures.fresh.sizes; reads = (c.recover.ensures.keeps told).reads };
       order = c.in-Ok.ensures.ordered;
       keeps = c.recover.ensures.keeps told;
-      kept = c.in-Ok.ensures.kept told;
+      kept = c.in-Ok.ensures.recovered.kept told;
     } in
     let log = c.in-Ok-over.engine.log in
     opens_marked g.L.Volume c.args.settings.now c.args.logs.now c.recover.new.volume c.write.new.volume c.in-Ok.recovered c.in-Ok-over.engine (record { log = c.write.new.log; memory = c.in-Ok-over.engine.memory }) made
@@ -48,10 +48,10 @@ returns-in-Ok-write-clause-opens g c told =
 pub returns-in-Err-write-clause-opens : goal.returns-in-Err-write-clause-opens
 returns-in-Err-write-clause-opens g c told =
     let made : IsMade g.L.Volume c.args.settings.now c.args.logs.now c.recover.new.volume c.in-Ok.recovered c.in-Ok-over.engine = record {
-      ready = record { recovered = c.in-Ok.ensures.found told; over = c.in-Ok-over.ensures.over; first = c.in-Ok.ensures.first; force = c.in-Ok.ensures.force; sizes = c.in-Ok.ensures.sizes; reads = (c.recover.ensures.keeps told).reads };
+      ready = record { recovered = c.in-Ok.ensures.recovered.found told; over = c.in-Ok-over.ensures.over; first = c.in-Ok.ensures.fresh.first; force = c.in-Ok.ensures.fresh.force; sizes = c.in-Ok.ensures.fresh.sizes; reads = (c.recover.ensures.keeps told).reads };
       order = c.in-Ok.ensures.ordered;
       keeps = c.recover.ensures.keeps told;
-      kept = c.in-Ok.ensures.kept told;
+      kept = c.in-Ok.ensures.recovered.kept told;
     } in
     opens_broken g.L.Volume c.args.settings.now c.args.logs.now c.recover.new.volume c.write.new.volume c.in-Ok.recovered c.in-Ok-over.engine made
     (c.in-Err-write.ensures.performed told).broken

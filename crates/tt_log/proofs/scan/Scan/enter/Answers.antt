@@ -1,10 +1,10 @@
 use Rattle.std.proofs.Common.{◌≡◌, refl, sym, subst, true, false}
 use Rattle.std.specs.Prelude.{IsOk}
 use Rattle.tt_disk.specs.declared.volume.Name.TheVariants.{Log as LogFile}
+use Rattle.tt_log.proofs.Walks.{Standing}
 use Rattle.tt_disk.specs.Volume.{Files}
 use Rattle.tt_log.specs.Batch.{IsHeaded}
 use Rattle.tt_log.specs.Scan.{ahead}
-use Rattle.tt_log.proofs.Following.{Standing}
 use Rattle.tt_log.proofs.Scanning.{same_files, entered, header_good}
 use Rattle.tt_log.proofs.scan.Scan.enter.Goals as goal
 
