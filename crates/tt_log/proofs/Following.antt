@@ -10,7 +10,7 @@ use Rattle.tt_log.specs.declared.file.FileEnd.{FileEnd}
 use Rattle.tt_log.specs.declared.opening.LogEnd.{LogEnd}
 use Rattle.tt_log.specs.declared.refusal.LogRefusal.{LogRefusal}
 use Rattle.tt_log.specs.declared.refusal.LogRefusal.TheVariants.{Gap}
-use Rattle.tt_log.specs.Walk.{LogContents, file_read, placed, in_front, on_part, walk, log_of}
+use Rattle.tt_log.specs.Walk.{file_read, placed, in_front, on_part, walk, log_of}
 use Rattle.tt_log.specs.Batch.{IsRefused}
 use Rattle.tt_log.specs.Opening.{has_place, where_place, started}
 use Rattle.tt_log.specs.File.{IsEnd, HasEnd, IsFileEnd, FoundEnd, IsFollowed}

@@ -1,5 +1,5 @@
 -- A batch of entries behind the last file of a log.
-use Rattle.std.proofs.Common.{◌≡◌, ◌≤◌, ◌+◌, ◌⊎◌, inl, inr, ⊎_elim, ℕ, List, [], ◌++◌, take, drop, refl, sym, ap, ◌∙◌, subst, true, arith, Some, Result, Ok, Err}
+use Rattle.std.proofs.Common.{◌≡◌, ◌≤◌, ◌+◌, ◌⊎◌, inl, inr, ⊎_elim, ℕ, List, [], ◌++◌, take, drop, refl, sym, ap, ◌∙◌, subst, true, arith, Some, Ok, Err}
 use Rattle.std.specs.Prelude.{IsOk}
 use Rattle.std.proofs.lemmas.List.{append-nil}
 use Rattle.tt_disk.specs.declared.volume.Name.{Name}
@@ -13,7 +13,6 @@ use Rattle.tt_record.specs.declared.entry.Entry.{Entry}
 use Rattle.tt_value.specs.declared.position.Position.{Position}
 use Rattle.tt_record.specs.Read.{entries_of}
 use Rattle.tt_log.specs.Lengths.{total}
-use Rattle.tt_log.specs.declared.refusal.LogRefusal.{LogRefusal}
 use Rattle.tt_log.specs.Walk.{LogContents, log_of, with_more, no_switch}
 use Rattle.tt_log.specs.Limits.{file_most}
 use Rattle.tt_record.specs.Place.{position}

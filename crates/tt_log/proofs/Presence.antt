@@ -1,10 +1,10 @@
 -- Which log files are there behind a call.
-use Rattle.std.proofs.Common.{◌≡◌, ◌⊎◌, inr, ◌+◌, ◌≤◌, ℕ, Bool, true, false, nat_eq, Some, None, if◌then◌else◌, refl, sym, ap, ◌∙◌, arith}
-use Rattle.std.specs.Prelude.{IsSome, is_some, OnOk, OnErr, Result, Ok, Err}
+use Rattle.std.proofs.Common.{◌≡◌, ◌+◌, ◌≤◌, ℕ, Bool, true, false, nat_eq, Some, None, if◌then◌else◌, refl, sym, ap, ◌∙◌, arith}
+use Rattle.std.specs.Prelude.{IsSome, is_some}
 use Rattle.tt_disk.specs.Volume.{OnlyAt, Files, Outcomes, File}
 use Rattle.tt_disk.specs.declared.volume.Name.TheVariants.{Log as LogFile}
 use Rattle.tt_log.specs.declared.log.Log.{Log}
-use Rattle.tt_log.specs.Log.{AddsFile, AddsNone, IsOpen, OnlyTwo, StandsStill, IsForced}
+use Rattle.tt_log.specs.Log.{AddsFile, AddsNone, IsOpen, OnlyTwo}
 use Rattle.tt_log.proofs.Standing.{file_there}
 use Rattle.tt_log.proofs.Switching.{apart_next}
 

@@ -1,5 +1,5 @@
 -- How far the entries of a file were read.
-use Rattle.std.proofs.Common.{◌≡◌, ◌+◌, ◌==◌, ◌||◌, ℕ, List, [], ◌++◌, length, Bool, true, false, Result, Ok, Err, refl, sym, ap, ◌∙◌, subst, arith, append_assoc}
+use Rattle.std.proofs.Common.{◌≡◌, ◌+◌, ◌==◌, ◌||◌, ℕ, List, [], ◌++◌, length, Bool, false, Result, Ok, Err, refl, sym, ap, ◌∙◌, subst, arith, append_assoc}
 use Rattle.std.proofs.lemmas.List.{append-nil}
 use Rattle.std.specs.Prelude.{Vec}
 use Rattle.std.specs.declared.alloc.Global.{Global}
@@ -10,11 +10,11 @@ use Rattle.tt_gate.specs.Walk.{IsGate, first_gate, next_gate, last_gate}
 use Rattle.tt_record.specs.declared.entry.Entry.{Entry}
 use Rattle.tt_log.specs.Lengths.{total}
 use Rattle.tt_log.specs.declared.batch.Batch.{Batch}
-use Rattle.tt_log.specs.declared.batch.Batch.TheVariants.{Closed, Switched, Entries}
+use Rattle.tt_log.specs.declared.batch.Batch.TheVariants.{Closed, Entries}
 use Rattle.tt_log.specs.declared.file.FileEnd.{FileEnd}
 use Rattle.tt_log.specs.declared.file.FileCursor.{FileCursor}
 use Rattle.tt_log.specs.declared.file.BatchStep.{BatchStep}
-use Rattle.tt_log.specs.declared.file.BatchStep.TheVariants.{On, Ends}
+use Rattle.tt_log.specs.declared.file.BatchStep.TheVariants.{Ends}
 use Rattle.tt_log.specs.declared.refusal.LogRefusal.{LogRefusal}
 use Rattle.tt_log.specs.Walk.{Part, before}
 use Rattle.tt_log.specs.Batch.{rest_read, IsHeaded, IsRefused, IsBatch, IsPlain, GateSays}

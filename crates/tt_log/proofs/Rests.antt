@@ -1,6 +1,5 @@
 -- What is read of a file behind one of its gates.
 use Rattle.std.proofs.Common.{◌≡◌, ◌⊎◌, inl, inr, ℕ, ◌+◌, ◌<◌, ◌≤◌, Bool, true, false, nat_le, List, [], ◌∷◌, length, Option, Some, None, Result, Ok, Err, refl, sym, ◌∙◌, ap, subst, arith, if◌then◌else◌, le-leb, length-append}
-use Rattle.std.proofs.lemmas.Bool.Decides.{nat_tests}
 use Rattle.tt_disk.specs.Volume.{size_of, bytes_of, File}
 use Rattle.tt_log.proofs.Sums.{not_le}
 use Rattle.tt_gate.specs.declared.gate.Gate.{Gate}

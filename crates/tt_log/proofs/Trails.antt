@@ -1,5 +1,5 @@
 -- The trail of a log: what is forced and what isn't, in order.
-use Rattle.std.proofs.Common.{◌≡◌, ◌+◌, ◌||◌, ◌⊎◌, inl, inr, ⊎_elim, ℕ, List, [], ◌∷◌, ◌++◌, refl, sym, ap, ◌∙◌, subst, Bool, true, false, append_assoc, Some, None, Result, Ok, Err, if◌then◌else◌, not}
+use Rattle.std.proofs.Common.{◌≡◌, ◌+◌, ◌||◌, ◌⊎◌, inl, inr, ⊎_elim, ℕ, List, [], ◌∷◌, ◌++◌, refl, sym, ap, ◌∙◌, subst, Bool, true, false, append_assoc, Some, None, Ok, Err, if◌then◌else◌, not}
 use Rattle.std.specs.Prelude.{IsOk}
 use Rattle.std.proofs.lemmas.Option.{same_Some}
 use Rattle.tt_record.specs.declared.entry.Entry.{Entry}
@@ -8,8 +8,7 @@ use Rattle.tt_record.specs.Entry.{length_of}
 use Rattle.tt_log.specs.Lengths.{total}
 use Rattle.tt_record.specs.Place.{position_of, next_position, position}
 use Rattle.tt_log.specs.declared.log.Log.{Log}
-use Rattle.tt_log.specs.declared.refusal.LogRefusal.{LogRefusal}
-use Rattle.tt_log.specs.Walk.{LogContents, placed, log_of, with_more, switched}
+use Rattle.tt_log.specs.Walk.{placed, log_of, with_more, switched}
 use Rattle.tt_log.specs.Log.{MayLeave, CrashLeavesAll, IsOpen, Gave, unforced, write_position_of, walk_end, entries_in, forces_earlier, room_made, forced_of, trail_of}
 use Rattle.tt_log.proofs.Walks.{placed_more, Standing}
 use Rattle.tt_log.proofs.Forcing.{more_end, more_none}

@@ -14,7 +14,6 @@ use Rattle.tt_log.specs.Lengths.{total}
 use Rattle.tt_log.specs.declared.file.FileEnd.{FileEnd}
 use Rattle.tt_log.specs.declared.file.FileCursor.{FileCursor}
 use Rattle.tt_log.specs.declared.file.BatchStep.{BatchStep}
-use Rattle.tt_log.specs.declared.file.BatchStep.TheVariants.{On, Ends}
 use Rattle.tt_log.specs.declared.refusal.LogRefusal.{LogRefusal}
 use Rattle.tt_log.specs.declared.opening.LogEnd.{LogEnd}
 use Rattle.tt_log.specs.Walk.{Part, before, file_read, placed, in_front, on_part, log_of}

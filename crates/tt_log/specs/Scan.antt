@@ -80,10 +80,6 @@ HasMore scan = scan.at < length scan.body.items
 abbrev pub IsUsedUp : Scan → Type 0
 IsUsedUp scan = scan.at ≡ length scan.body.items
 
--- the scan goes on in a later file
-abbrev pub Switches : Scan → Scan → Type 0
-Switches old new = IsUsedUp new × (old.file < new.file)
-
 -- A scan that isn't past the log's current file goes on, and that file is the last one ahead.
 abbrev pub IsScanning : Scan → Log → Files → Type 0
 IsScanning scan log files = scan.file ≤ log.current_file → IsGoing scan files × ((walk_end (ahead scan files)).file ≡ log.current_file)
@@ -110,16 +106,12 @@ with_given (Some p) rest = p ∷ rest
 abbrev pub most_left : Scan → ℕ
 most_left scan = (log_files_end - scan.file) * longest_file + (longest_file - scan.gate) + (length scan.body.items - scan.at)
 
--- less is left to read
-abbrev pub HasLess : Scan → Scan → Type 0
-HasLess old new = most_left new < most_left old
-
 -- What was read of a volume behind a gate.
 pub record LoadsOn {V : Type 0} (g : Ghosts V) (old new : Scan) (volume : V) (loaded : Loaded) : Type 0 where
   pub body : loaded ≡ Body → HasMore new
-  pub switched : loaded ≡ Switched → Switches old new
+  pub switched : loaded ≡ Switched → IsUsedUp new × (old.file < new.file)
   pub nothing : loaded ≡ Nothing → EndsOn g old volume
-  pub fewer : ¬ (loaded ≡ Nothing) → HasLess old new
+  pub fewer : ¬ (loaded ≡ Nothing) → most_left new < most_left old
 
 -- An entry was taken from those ahead, or memory was wanting.
 pub record TakesAhead (old new : Scan) (files : Files) (result : Result (Position × Entry) LogRefusal) : Type 0 where

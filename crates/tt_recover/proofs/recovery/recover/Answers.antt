@@ -26,20 +26,20 @@ returns-in-Err-clause-refused g c told = refused_by (g.V.Volume.now c.args.volum
 pub returns-clause-recovered : goal.returns-clause-recovered
 returns-clause-recovered g c = record {
   found = λ told.
-    let old = g.V.Volume.now c.args.volume.now in
-    let now = g.V.Volume.now c.start_with.new.volume in
-    let log = c.in-Ok.log in
-    let open_log = c.in-Ok.ensures.opened.ready told in
-    let found : log_of (first_file_of log) now ≡ log_of 0 old = c.in-Ok.ensures.opened.found told ∙ begun_log old in
-    let read = c.in-Ok.ensures.taken told [] c.new-progress.ensures in
-    let all : newest_first (entries_in (log_of 0 old)) ≡ newest_first (forced_of log now) = ap (λ (q : Result Read LogRefusal). newest_first (entries_in q)) (sym found) in
-    let r : Recovered = record { log = log; rows = c.in-Ok-finish.rows; next_transaction = c.next_transaction-next_transaction.result } in
-    let none : log.forced_bytes + log.buffered ≡ log.forced_bytes = omega (arith, c.in-Ok.ensures.fresh.count) in
-    recovers r old now open_log.whole found
-    (λ q. c.in-Ok-finish.ensures.found (newest_first (entries_in (log_of 0 old))) read q ∙ ap (λ (t : Trail). standing no_cells t q) all)
-    (c.next_transaction-next_transaction.ensures.next ∙ read.next ∙ ap (next_number 1) all)
-    (ap (position (current_file_of log)) none ∙ sym open_log.end)
-    c.in-Ok.ensures.empty;
+      let old = g.V.Volume.now c.args.volume.now in
+      let now = g.V.Volume.now c.start_with.new.volume in
+      let log = c.in-Ok.log in
+      let open_log = c.in-Ok.ensures.opened.ready told in
+      let found : log_of (first_file_of log) now ≡ log_of 0 old = c.in-Ok.ensures.opened.found told ∙ begun_log old in
+      let read = c.in-Ok.ensures.taken told [] c.new-progress.ensures in
+      let all : newest_first (entries_in (log_of 0 old)) ≡ newest_first (forced_of log now) = ap (λ (q : Result Read LogRefusal). newest_first (entries_in q)) (sym found) in
+      let r : Recovered = record { log = log; rows = c.in-Ok-finish.rows; next_transaction = c.next_transaction-next_transaction.result } in
+      let none : log.forced_bytes + log.buffered ≡ log.forced_bytes = omega (arith, c.in-Ok.ensures.fresh.count) in
+      recovers r old now open_log.whole found
+      (λ q. c.in-Ok-finish.ensures.found (newest_first (entries_in (log_of 0 old))) read q ∙ ap (λ (t : Trail). standing no_cells t q) all)
+      (c.next_transaction-next_transaction.ensures.next ∙ read.next ∙ ap (next_number 1) all)
+      (ap (position (current_file_of log)) none ∙ sym open_log.end)
+      c.in-Ok.ensures.empty;
   ready = c.in-Ok.ensures.opened.ready;
   kept = c.in-Ok.ensures.opened.kept;
 }

@@ -95,7 +95,7 @@ returns-clause-done g c told =
     let r = moved g at.After-make told in
     ap (λ k. log_of k (g.V.Volume.now c.append_batch.new.volume)) (sym c.in_ok-write_out.ensures.forced.forced.sizes.0)
     ∙ switched_now log.first_file log.current_file log.forced_bytes c.switch_to-switch.result _ _ _ _ r.found (next g at.After-append_batch told r) (batch g at.After-append_batch told r) (body_is_read _ _ c.switch_to-switch.ensures.body)
-      (done log (g.V.Volume.now c.make.new.volume) (g.V.Volume.now c.append_batch.new.volume) c.switch_to-switch.result (c.in_ok-write_out.ensures.leaves.ready told).fresh (c.in_ok-append_batch.ensures.done told))
+    (done log (g.V.Volume.now c.make.new.volume) (g.V.Volume.now c.append_batch.new.volume) c.switch_to-switch.result (c.in_ok-write_out.ensures.leaves.ready told).fresh (c.in_ok-append_batch.ensures.done told))
     ∙ ap switched r.same
 
 pub returns-clause-leaves : goal.returns-clause-leaves
