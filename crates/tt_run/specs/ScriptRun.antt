@@ -16,7 +16,8 @@ use Rattle.tt_engine.specs.declared.engine.Engine.{Engine}
 use Rattle.tt_engine.specs.declared.request.Request.{Request}
 use Rattle.tt_engine.specs.Engine.{EndCallsLog, Represents, Steps}
 use Rattle.tt_engine.specs.Request.{script_ended}
-use Rattle.tt_run.specs.Devices.{KeepsRest}
+use Rattle.tt_disk.specs.Faults.{HasCause}
+use Rattle.tt_run.specs.Devices.{KeepsRest, SinkRose, SourceRose, VolumeRose}
 use Rattle.tt_run.specs.declared.devices.Devices.{Devices}
 use Rattle.tt_run.specs.declared.run_end.Round.{Round}
 use Rattle.tt_run.specs.declared.run_end.RunEnd.{RunEnd}
@@ -66,6 +67,28 @@ pub record OnlyLogs {S A K L C B : Type 0} (old new : ScriptRun S A K L C B) : T
   pub script : new.devices.now.script ≡ old.devices.now.script
   pub sink : new.devices.now.sink ≡ old.devices.now.sink
   pub rest : KeepsRest old.devices.now new.devices.now
+
+-- ---- counts of faults
+
+-- the count of the run's script rose where this holds
+abbrev pub ScriptRose : {S A K L C B : Type 0} → SourceGhosts S → Type 0 → ScriptRun S A K L C B → ScriptRun S A K L C B → Type 0
+ScriptRose s P old new = SourceRose s P old.devices.now.script new.devices.now.script
+
+-- the count of the run's sink rose where this holds
+abbrev pub RepliesRose : {S A K L C B : Type 0} → SinkGhosts K → Type 0 → ScriptRun S A K L C B → ScriptRun S A K L C B → Type 0
+RepliesRose k P old new = SinkRose k P old.devices.now.sink new.devices.now.sink
+
+-- the count of the run's log files rose where this holds
+abbrev pub LogsRose : {S A K L C B : Type 0} → Ghosts L → Type 0 → ScriptRun S A K L C B → ScriptRun S A K L C B → Type 0
+LogsRose g P old new = VolumeRose g P old.devices.now.logs new.devices.now.logs
+
+-- the count of the run's script rose where reading it failed
+abbrev pub HasScriptCause : {S A K L C B T : Type 0} → SourceGhosts S → ScriptRun S A K L C B → ScriptRun S A K L C B → Result T Failed → Type 0
+HasScriptCause s old new result = HasCause s.exact (s.faults old.devices.now.script) (s.faults new.devices.now.script) result
+
+-- the count of the run's sink rose where writing to it failed
+abbrev pub HasSinkCause : {S A K L C B T : Type 0} → SinkGhosts K → ScriptRun S A K L C B → ScriptRun S A K L C B → Result T Failed → Type 0
+HasSinkCause k old new result = HasCause k.exact (k.faults old.devices.now.sink) (k.faults new.devices.now.sink) result
 
 -- ---- a run while it goes on
 
@@ -205,3 +228,7 @@ pub record WritesRound {K : Type 0} (k : SinkGhosts K) (r : Round) (old new : K)
   pub answered : (reply : Reply) → r.reply ≡ Some reply
       → (Appends (k.given old) (k.given new) (text_of reply) × (result ≡ end_of (Some reply) r.stop))
       ⊎ ((n : ℕ) × Appends (k.given old) (k.given new) (take n (text_of reply)) × (result ≡ Some (AtSink r.stop)))
+
+-- a round of the run was written to its sink, and how the run goes on
+abbrev pub WritesIn : {S A K L C B : Type 0} → SinkGhosts K → Round → ScriptRun S A K L C B → ScriptRun S A K L C B → Option RunEnd → Type 0
+WritesIn k r old new result = WritesRound k r old.devices.now.sink new.devices.now.sink result

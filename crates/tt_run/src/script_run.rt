@@ -1,7 +1,6 @@
 //! A script that is being done. A line is read, done by the engine, and its reply is written; behind the last line the log is forced.
 //! The run ends at the first call that fails.
 ghost use Rattle.std.specs.Prelude.{◌≡◌, ◌<◌, Result, Option, Some, None, IfOk, IfNone, IfSome};
-ghost use Rattle.tt_disk.specs.Faults.{HasCause};
 ghost use Rattle.tt_flow.specs.Lines.{bytes_to_come};
 ghost use Rattle.tt_engine.specs.Request.{IsReplyInUse};
 ghost use Rattle.tt_log.specs.Calls.{IsOpenOn};
@@ -67,9 +66,9 @@ struct ScriptRun<'a, S, A, K, L, C, B> {
 }
 
 impl<'a, S: Source, A, K: Sink, L: Volume, C, B> ScriptRun<'a, S, A, K, L, C, B> {
-    ghost use Rattle.tt_run.specs.Devices.{KeepsRest, SourceFaults, SourceRose, SinkFaults, SinkRose, VolumeFaults, VolumeRose};
+    ghost use Rattle.tt_run.specs.Devices.{KeepsRest};
     ghost use Rattle.tt_run.specs.RunEnd.{status_of};
-    ghost use Rattle.tt_run.specs.ScriptRun.{DoesLine, DoesLines, EndsScript, EndsWith, IsAtStart, IsEnd, IsLine, IsReady, IsRunEnd, KeepsReferences, MakesRound, OnlyLogs, OnlyScript, OnlySink, PutsReply, ReadsNext, WritesRound, round};
+    ghost use Rattle.tt_run.specs.ScriptRun.{DoesLine, DoesLines, EndsScript, EndsWith, HasScriptCause, HasSinkCause, IsAtStart, IsEnd, IsLine, IsReady, IsRunEnd, KeepsReferences, LogsRose, MakesRound, OnlyLogs, OnlyScript, OnlySink, PutsReply, ReadsNext, RepliesRose, ScriptRose, WritesIn, round};
     ghost use Rattle.tt_run.specs.declared.status.Status.TheVariants.{ScriptFault, SinkFault, VolumeFault};
     ghost use Rattle.tt_value.specs.declared.reply.Stop.TheVariants.{Logs};
 
@@ -101,9 +100,9 @@ impl<'a, S: Source, A, K: Sink, L: Volume, C, B> ScriptRun<'a, S, A, K, L, C, B>
         ensures ends { IsRunEnd result }
         ensures same_devices { self.new.devices.ghost_name ≡ self.old.devices.ghost_name }
         ensures rest { KeepsRest self.old.devices.now self.new.devices.now }
-        ensures script_fault { SourceFaults S.Source ScriptFault self.old.devices.now.script self.new.devices.now.script (status_of result) }
-        ensures sink_fault { SinkFaults K.Sink self.old.devices.now.sink self.new.devices.now.sink (status_of result) }
-        ensures logs_fault { VolumeFaults L.Volume Logs self.old.devices.now.logs self.new.devices.now.logs (status_of result) }
+        ensures script_fault { ScriptRose S.Source (status_of result ≡ ScriptFault) self.old self.new }
+        ensures sink_fault { RepliesRose K.Sink (status_of result ≡ SinkFault) self.old self.new }
+        ensures logs_fault { LogsRose L.Volume (status_of result ≡ VolumeFault Logs) self.old self.new }
     {
         'lines: loop {
             match self.do_line() {
@@ -122,9 +121,9 @@ impl<'a, S: Source, A, K: Sink, L: Volume, C, B> ScriptRun<'a, S, A, K, L, C, B>
         ensures ends { IfSome result IsRunEnd }
         ensures references { KeepsReferences self.old self.new }
         ensures rest { KeepsRest self.old.devices.now self.new.devices.now }
-        ensures script_fault { SourceRose S.Source (EndsWith ScriptFault result) self.old.devices.now.script self.new.devices.now.script }
-        ensures sink_fault { SinkRose K.Sink (EndsWith SinkFault result) self.old.devices.now.sink self.new.devices.now.sink }
-        ensures logs_fault { VolumeRose L.Volume (EndsWith (VolumeFault Logs) result) self.old.devices.now.logs self.new.devices.now.logs }
+        ensures script_fault { ScriptRose S.Source (EndsWith ScriptFault result) self.old self.new }
+        ensures sink_fault { RepliesRose K.Sink (EndsWith SinkFault result) self.old self.new }
+        ensures logs_fault { LogsRose L.Volume (EndsWith (VolumeFault Logs) result) self.old self.new }
     {
         let request = match self.next_line() {
             Ok(NextLine::Asks(request)) => request,
@@ -143,7 +142,7 @@ impl<'a, S: Source, A, K: Sink, L: Volume, C, B> ScriptRun<'a, S, A, K, L, C, B>
         ensures fewer { IfOk result (λ next. IsLine next → bytes_to_come self.new.reader < bytes_to_come self.old.reader) }
         ensures rest { OnlyScript self.old self.new }
         ensures references { KeepsReferences self.old self.new }
-        ensures cause { HasCause S.exact (S.faults self.old.devices.now.script) (S.faults self.new.devices.now.script) result }
+        ensures cause { HasScriptCause S.Source self.old self.new result }
     {
         match self.reader.next(&mut self.devices.script, &mut self.line) {
             Ok(LineRead::Line) => Ok(match read_request(self.alloc, self.line.line()) {
@@ -164,7 +163,7 @@ impl<'a, S: Source, A, K: Sink, L: Volume, C, B> ScriptRun<'a, S, A, K, L, C, B>
         ensures given { IfSome result.reply IsReplyInUse }
         ensures rest { OnlyLogs self.old self.new }
         ensures references { KeepsReferences self.old self.new }
-        ensures fault { VolumeRose L.Volume (result.stop ≡ Some Logs) self.old.devices.now.logs self.new.devices.now.logs }
+        ensures fault { LogsRose L.Volume (result.stop ≡ Some Logs) self.old self.new }
     {
         match self.engine.step(self.alloc, &mut self.devices.logs, request) {
             Ok(reply) => Round {
@@ -181,10 +180,10 @@ impl<'a, S: Source, A, K: Sink, L: Volume, C, B> ScriptRun<'a, S, A, K, L, C, B>
     // Writes the reply of a round; answers how the run ends where it ends with it.
     fn write_round(&mut self, round: Round) -> Option<RunEnd>
         requires { IfSome round.reply IsReplyInUse }
-        ensures written { WritesRound K.Sink round self.old.devices.now.sink self.new.devices.now.sink result }
+        ensures written { WritesIn K.Sink round self.old self.new result }
         ensures rest { OnlySink self.old self.new }
         ensures references { KeepsReferences self.old self.new }
-        ensures fault { SinkRose K.Sink (EndsWith SinkFault result) self.old.devices.now.sink self.new.devices.now.sink }
+        ensures fault { RepliesRose K.Sink (EndsWith SinkFault result) self.old self.new }
     {
         let Round { reply, stop } = round;
         match stop {
@@ -196,10 +195,10 @@ impl<'a, S: Source, A, K: Sink, L: Volume, C, B> ScriptRun<'a, S, A, K, L, C, B>
     // Writes the reply of a line that was stopped, if it has one. Where the sink fails, too, the run ends with the sink.
     fn write_stopped(&mut self, reply: Option<Reply>, stop: Stop) -> RunEnd
         requires { IfSome reply IsReplyInUse }
-        ensures written { WritesRound K.Sink (round reply (Some stop)) self.old.devices.now.sink self.new.devices.now.sink (Some result) }
+        ensures written { WritesIn K.Sink (round reply (Some stop)) self.old self.new (Some result) }
         ensures rest { OnlySink self.old self.new }
         ensures references { KeepsReferences self.old self.new }
-        ensures fault { SinkRose K.Sink (EndsWith SinkFault (Some result)) self.old.devices.now.sink self.new.devices.now.sink }
+        ensures fault { RepliesRose K.Sink (EndsWith SinkFault (Some result)) self.old self.new }
     {
         let reply = match reply {
             Some(reply) => reply,
@@ -217,10 +216,10 @@ impl<'a, S: Source, A, K: Sink, L: Volume, C, B> ScriptRun<'a, S, A, K, L, C, B>
     // Writes the reply of a line that wasn't stopped.
     fn write_reply(&mut self, reply: Option<Reply>) -> Option<RunEnd>
         requires { IfSome reply IsReplyInUse }
-        ensures written { WritesRound K.Sink (round reply None) self.old.devices.now.sink self.new.devices.now.sink result }
+        ensures written { WritesIn K.Sink (round reply None) self.old self.new result }
         ensures rest { OnlySink self.old self.new }
         ensures references { KeepsReferences self.old self.new }
-        ensures fault { SinkRose K.Sink (EndsWith SinkFault result) self.old.devices.now.sink self.new.devices.now.sink }
+        ensures fault { RepliesRose K.Sink (EndsWith SinkFault result) self.old self.new }
     {
         let reply = match reply {
             Some(reply) => reply,
@@ -238,7 +237,7 @@ impl<'a, S: Source, A, K: Sink, L: Volume, C, B> ScriptRun<'a, S, A, K, L, C, B>
         ensures written { PutsReply K.Sink reply.now self.old.devices.now.sink self.new.devices.now.sink result }
         ensures rest { OnlySink self.old self.new }
         ensures references { KeepsReferences self.old self.new }
-        ensures cause { HasCause K.exact (K.faults self.old.devices.now.sink) (K.faults self.new.devices.now.sink) result }
+        ensures cause { HasSinkCause K.Sink self.old self.new result }
     {
         let text = reply_text(reply);
         self.devices.sink.put(text.as_slice())
@@ -251,7 +250,7 @@ impl<'a, S: Source, A, K: Sink, L: Volume, C, B> ScriptRun<'a, S, A, K, L, C, B>
         ensures ends { IsEnd result }
         ensures rest { OnlyLogs self.old self.new }
         ensures references { KeepsReferences self.old self.new }
-        ensures fault { VolumeRose L.Volume (status_of result ≡ VolumeFault Logs) self.old.devices.now.logs self.new.devices.now.logs }
+        ensures fault { LogsRose L.Volume (status_of result ≡ VolumeFault Logs) self.old self.new }
     {
         match self.engine.end(&mut self.devices.logs) {
             Ok(()) => RunEnd::AtEnd { stop: None },
