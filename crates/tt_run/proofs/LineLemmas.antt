@@ -52,7 +52,7 @@ round_ends k g request b c z r result made written = by made.result made.is
     by (Ok reply) is =
         let unstopped : r.stop ≡ None = ap (λ (x : Round). x.stop) is in
         elim (written.answered reply (ap (λ (x : Round). x.reply) is)) [
-          inl w ↦ goes unstopped (w.1 ∙ ap (λ (o : Option Stop). end_of (Some reply) o) unstopped)
+          | inl w ↦ goes unstopped (w.1 ∙ ap (λ (o : Option Stop). end_of (Some reply) o) unstopped)
           | inr w ↦ sinks unstopped (w.2 ∙ ap (λ (o : Option Stop). Some (AtSink o)) unstopped)
         ]
     by (Err failed) is =
@@ -88,21 +88,21 @@ round_named_stop r result (stops so is) named = so
 pub skipped_done : {S A K L C B : Type 0} (s : SourceGhosts S) (k : SinkGhosts K) (g : Ghosts L) (a b : ScriptRun S A K L C B) → ReadsNext s a b (Ok Skipped) → OnlyScript a b → DoesLine s k g a b None
 skipped_done s k g a b read only told first start script before state running =
     let on : IsRunning g first start (streams script (s.left b.devices.now.script) before (k.given a.devices.now.sink)) b.reader a.engine (moment state a.devices.now.logs) =
-        goes_past g first start script (s.left a.devices.now.script) (s.left b.devices.now.script) before (k.given a.devices.now.sink) a.reader b.reader a.engine (moment state a.devices.now.logs) running (read script running.lines running.given) in
+    goes_past g first start script (s.left a.devices.now.script) (s.left b.devices.now.script) before (k.given a.devices.now.sink) a.reader b.reader a.engine (moment state a.devices.now.logs) running (read script running.lines running.given) in
     (state, rw (only.engine, only.sink, only.logs) on)
 
 -- a script that couldn't be read on
 pub script_failed : {S A K L C B : Type 0} (s : SourceGhosts S) (k : SinkGhosts K) (g : Ghosts L) (a b : ScriptRun S A K L C B) (failed : Failed) → ReadsNext s a b (Err failed) → OnlyScript a b → DoesLine s k g a b (Some AtScript)
 script_failed s k g a b failed read only told first start script before state running =
     let on : IsRunFrom g (WasSettled g first start) (streams script (s.left b.devices.now.script) before (k.given a.devices.now.sink)) start AtScript a.devices.now.logs =
-        failed_script g first start script (s.left a.devices.now.script) (s.left b.devices.now.script) before (k.given a.devices.now.sink) a.reader a.engine (moment state a.devices.now.logs) running (read script running.lines running.given) in
+    failed_script g first start script (s.left a.devices.now.script) (s.left b.devices.now.script) before (k.given a.devices.now.sink) a.reader a.engine (moment state a.devices.now.logs) running (read script running.lines running.given) in
     rw (only.sink, only.logs) on
 
 -- a script that is too long
 pub script_over : {S A K L C B : Type 0} (s : SourceGhosts S) (k : SinkGhosts K) (g : Ghosts L) (a b : ScriptRun S A K L C B) → ReadsNext s a b (Ok TooLong) → OnlyScript a b → DoesLine s k g a b (Some ScriptOver)
 script_over s k g a b read only told first start script before state running =
     let on : IsRunFrom g (WasSettled g first start) (streams script (s.left b.devices.now.script) before (k.given a.devices.now.sink)) start ScriptOver a.devices.now.logs =
-        long_script g first start script (s.left a.devices.now.script) (s.left b.devices.now.script) before (k.given a.devices.now.sink) a.reader a.engine (moment state a.devices.now.logs) running (read script running.lines running.given) in
+    long_script g first start script (s.left a.devices.now.script) (s.left b.devices.now.script) before (k.given a.devices.now.sink) a.reader a.engine (moment state a.devices.now.logs) running (read script running.lines running.given) in
     rw (only.sink, only.logs) on
 
 -- the end of the script
@@ -111,7 +111,7 @@ script_ends s k g a b z end read only ended rest told first start script before 
     let stands : Represents b.engine (g.now b.devices.now.logs) state = rw (only.engine, only.logs) (running.stands) in
     let left : HasEnded g a.engine (moment state a.devices.now.logs) z.devices.now.logs end = rw (sym only.engine, sym only.logs) (ended told state stands) in
     let on : IsRunFrom g (WasSettled g first start) (streams script (s.left b.devices.now.script) before (k.given a.devices.now.sink)) start end z.devices.now.logs =
-        ended_script g first start script (s.left a.devices.now.script) (s.left b.devices.now.script) before (k.given a.devices.now.sink) a.reader a.engine (moment state a.devices.now.logs) z.devices.now.logs end running (read script running.lines running.given) left in
+    ended_script g first start script (s.left a.devices.now.script) (s.left b.devices.now.script) before (k.given a.devices.now.sink) a.reader a.engine (moment state a.devices.now.logs) z.devices.now.logs end running (read script running.lines running.given) left in
     rw (rest.script, rest.sink, only.sink) on
 
 -- a line that asks for something
@@ -137,9 +137,9 @@ line_done {S} {A} {K} {L} s k g a b c z request r result read only made rest wri
         let so = steps.done state running.stands in
         let unstopped : r.stop ≡ None = ap (λ (x : Round). x.stop) is in
         let moved = has_moved g a.engine m z.engine request reply z.devices.now.logs so
-            (λ t h. forced_now z.engine (g.now z.devices.now.logs) (g.may z.devices.now.logs) t h steps.ready) (λ t h. forced_settled z.engine (g.now z.devices.now.logs) (g.may z.devices.now.logs) t h steps.ready) in
+        (λ t h. forced_now z.engine (g.now z.devices.now.logs) (g.may z.devices.now.logs) t h steps.ready) (λ t h. forced_settled z.engine (g.now z.devices.now.logs) (g.may z.devices.now.logs) t h steps.ready) in
         elim (written.answered reply (ap (λ (x : Round). x.reply) is)) [
-          inl w ↦ subst (λ (o : Option RunEnd). IsStep g first start (told_by s k script before z) z o) (sym (w.1 ∙ ap (λ (o : Option Stop). end_of (Some reply) o) unstopped))
+          | inl w ↦ subst (λ (o : Option RunEnd). IsStep g first start (told_by s k script before z) z o) (sym (w.1 ∙ ap (λ (o : Option Stop). end_of (Some reply) o) unstopped))
               (so.after, goes_on g first start script (s.left a.devices.now.script) (s.left z.devices.now.script) before (k.given a.devices.now.sink) (k.given z.devices.now.sink) a.reader z.reader a.engine z.engine m (moment so.after z.devices.now.logs) request reply running next moved (rw (sym same_sink) w.0))
           | inr w ↦ subst (λ (o : Option RunEnd). IsStep g first start (told_by s k script before z) z o) (sym (w.2 ∙ ap (λ (o : Option Stop). Some (AtSink o)) unstopped))
               (failed_put g first start script (s.left a.devices.now.script) (s.left z.devices.now.script) before (k.given a.devices.now.sink) (k.given z.devices.now.sink) a.reader z.reader a.engine z.engine m (moment so.after z.devices.now.logs) request reply w.0 running next moved (rw (sym same_sink) w.1))
@@ -148,7 +148,7 @@ line_done {S} {A} {K} {L} s k g a b c z request r result read only made rest wri
         let stopped : r.stop ≡ Some Logs = ap (λ (x : Round). x.stop) is in
         let unwritten = written.unanswered (ap (λ (x : Round). x.reply) is) in
         let on : IsRunFrom g (WasSettled g first start) (streams script (s.left z.devices.now.script) before (k.given a.devices.now.sink)) start (AtLine None Logs) z.devices.now.logs =
-            failed_line g first start script (s.left a.devices.now.script) (s.left z.devices.now.script) before (k.given a.devices.now.sink) a.reader z.reader a.engine m z.devices.now.logs request running next (steps.stopped state running.stands) in
+        failed_line g first start script (s.left a.devices.now.script) (s.left z.devices.now.script) before (k.given a.devices.now.sink) a.reader z.reader a.engine m z.devices.now.logs request running next (steps.stopped state running.stands) in
         subst (λ (o : Option RunEnd). IsStep g first start (told_by s k script before z) z o) (sym (unwritten.1 ∙ ap (λ (o : Option Stop). end_of None o) stopped))
         (rw (unwritten.0, same_sink) on)
 
@@ -175,7 +175,7 @@ pub line_script : {S A K L C B : Type 0} (s : SourceGhosts S) (a b c z : ScriptR
 line_script s a b c z request next r result is cause rest put ends =
     let answered : HasCause s.exact (s.faults a.devices.now.script) (s.faults b.devices.now.script) (Ok (Asks request)) = subst (λ (n : Result NextLine Failed). HasCause s.exact (s.faults a.devices.now.script) (s.faults b.devices.now.script) n) is cause in
     let rose : RoseWhere s.exact (EndsWith ScriptFault result) (s.faults a.devices.now.script) (s.faults b.devices.now.script) =
-        record { later = answered.later; failed = λ named. absurd (round_no_script r result ends named); stays = inr answered.stays } in
+    record { later = answered.later; failed = λ named. absurd (round_no_script r result ends named); stays = inr answered.stays } in
     rw (put.script, rest.script) rose
 
 -- of the log files, over a line
@@ -183,7 +183,7 @@ pub line_logs : {S A K L C B : Type 0} (g : Ghosts L) (a b c z : ScriptRun S A K
     → VolumeRose g (EndsWith (VolumeFault Logs) result) a.devices.now.logs z.devices.now.logs
 line_logs g a b c z r result only fault put ends =
     let rose : RoseWhere g.exact (EndsWith (VolumeFault Logs) result) (g.faults b.devices.now.logs) (g.faults c.devices.now.logs) =
-        rose_if g.exact (r.stop ≡ Some Logs) (EndsWith (VolumeFault Logs) result) (g.faults b.devices.now.logs) (g.faults c.devices.now.logs) (round_stop_named r result ends) (round_named_stop r result ends) fault in
+    rose_if g.exact (r.stop ≡ Some Logs) (EndsWith (VolumeFault Logs) result) (g.faults b.devices.now.logs) (g.faults c.devices.now.logs) (round_stop_named r result ends) (round_named_stop r result ends) fault in
     rw (sym only.logs, put.logs) rose
 
 -- ---- a whole script

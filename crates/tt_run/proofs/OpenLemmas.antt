@@ -202,7 +202,7 @@ pub completes : {S A K L C B : Type 0} (s : SourceGhosts S) (k : SinkGhosts K) (
     → (status ≡ ScriptFault → script) → (status ≡ SinkFault → sink) → (status ≡ VolumeFault Logs → logs) → ¬ script → ¬ sink → ¬ logs → IsDoneOrWanting status
 completes s k g settings found old new status bytes script sink logs runs is place told short at_script at_sink at_logs no_script no_sink no_logs =
     elim (runs.ran found is) [
-      inl early ↦ early_completes g settings found old new status logs early at_logs place no_logs
+      | inl early ↦ early_completes g settings found old new status logs early at_logs place no_logs
       | inr did ↦ run_completes (told_between s k old new) bytes did.run.lines.replies did.run.lines.behind.state did.run.lines.last did.end status script sink logs told short did.is did.run.lines.done at_script at_sink at_logs no_script no_sink no_logs
     ]
 

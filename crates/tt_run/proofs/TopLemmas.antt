@@ -55,7 +55,7 @@ module _ {S A K L C B : Type 0} (s : SourceGhosts S) (a : SourceGhosts A) (k : S
     ran = λ told. inl (ended_in_attributes (a.left old.attributes) status e.says e.ended);
     refused = λ refusal told is. record { script = refl; sink = refl; logs = λ told. same_files (g.now old.logs) (g.may old.logs) };
     complete = λ bytes text settings found told script short given says is place no_script no_attributes no_sink no_logs.
-      ended_complete status (SourceFailed a old.attributes x) settings e.ended (e.only text (Ok settings) given says) e.failed no_attributes;
+        ended_complete status (SourceFailed a old.attributes x) settings e.ended (e.only text (Ok settings) given says) e.failed no_attributes;
   }
 
   pub ended_untouched : {Z : Type 0} (words : List (String Z)) → EndedSo status → Untouched a g words old (record old { attributes = x }) status
@@ -133,17 +133,17 @@ lines_ran s k g settings old new engine opened end status told opens since does 
     let may_old = g.may old.logs in
     let start = begun_over settings now_old started.found in
     let run : IsRun g (LogsAreSettled now_old may_old) (told_between s k old new) start end old.logs new.logs =
-        run_over g (WasSettled g engine (moment start opened)) (LogsAreSettled now_old may_old) (told_between s k old new) start end old.logs opened new.logs (since started.found)
-        (λ settled. opens.kept (settled_reads now_old may_old settled)) (λ still. opens.still started.found started.is still)
-        (subst (λ (f : Opened). ChangesFrom f.end.file now_old (g.now opened) may_old (g.may opened)) (sym (begun_found settings now_old started.found)) (opens.others started.found started.is))
-        (does told start started.stands) in
+    run_over g (WasSettled g engine (moment start opened)) (LogsAreSettled now_old may_old) (told_between s k old new) start end old.logs opened new.logs (since started.found)
+    (λ settled. opens.kept (settled_reads now_old may_old settled)) (λ still. opens.still started.found started.is still)
+    (subst (λ (f : Opened). ChangesFrom f.end.file now_old (g.now opened) may_old (g.may opened)) (sym (begun_found settings now_old started.found)) (opens.others started.found started.is))
+    (does told start started.stands) in
     record {
       opened = subst (λ (t : Status). IsOpened settings (database now_old) t) (sym is) (opened_lines settings now_old started.found end started.is started.place ends);
       ran = λ found found_is. inr (record {
-          end = end;
-          is = is;
-          run = subst (λ (f : Opened). IsRun g (LogsAreSettled now_old may_old) (told_between s k old new) (begun_over settings now_old f) end old.logs new.logs) (same_found now_old started.found found started.is found_is) run;
-        });
+        end = end;
+        is = is;
+        run = subst (λ (f : Opened). IsRun g (LogsAreSettled now_old may_old) (told_between s k old new) (begun_over settings now_old f) end old.logs new.logs) (same_found now_old started.found found started.is found_is) run;
+      });
     }
 
 -- ---- attributes that aren't right

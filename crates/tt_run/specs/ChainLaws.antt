@@ -183,26 +183,26 @@ module _ {S A K L C B Z : Type 0} (s : SourceGhosts S) (a : SourceGhosts A) (k :
   -- After a run whose status names no fault of the log files the next may be begun, whatever else failed.
   pub after_run : (status : Status) → Untouched a g words old new status → Runs s a k g old new status → (status ≡ VolumeFault Logs → ⊥) → MayRunOn g new.logs
   after_run status rest did unfaulted = elim (did.ran told) [
-    inl ended ↦ kept (rest.before_lines (before_lines (a.left old.attributes) status ended))
+    | inl ended ↦ kept (rest.before_lines (before_lines (a.left old.attributes) status ended))
     | inr with_settings ↦
-      let settings = with_settings.0 in
-      elim ((with_settings.2).ran runs.found runs.is) [
-        inl early ↦ kept (early_kept status settings runs.found (with_settings.1) runs.is rest unfaulted early)
-        | inr lines ↦ lines_done status settings runs.found unfaulted lines
-      ]
+        let settings = with_settings.0 in
+        elim ((with_settings.2).ran runs.found runs.is) [
+          | inl early ↦ kept (early_kept status settings runs.found (with_settings.1) runs.is rest unfaulted early)
+          | inr lines ↦ lines_done status settings runs.found unfaulted lines
+        ]
   ]
 
   -- After a fault of the log files the next run may be begun over whatever a crash leaves.
   pub after_fault : (now : Files) (may : Outcomes) → Runs s a k g old new (VolumeFault Logs) → MayLeave (g.may new.logs) now → ((n : Name) → IsSettled n now may) → MayRun now may
   after_fault now may did left settled = elim (did.ran told) [
-    inl ended ↦ absurd ended
+    | inl ended ↦ absurd ended
     | inr with_settings ↦
-      let settings = with_settings.0 in
-      elim ((with_settings.2).ran runs.found runs.is) [
-        inl early ↦ (after_crash _ _ (g.may new.logs) now may (early.crash runs.settled) left settled).runs
-        | inr lines ↦
-          let run = lines.run.lines in
-          let stop = stopped _ _ run.done.lines run.behind.state run.last lines.end run.done.ends lines.is in
-          (after_crash _ _ (g.may new.logs) now may (run.leaves.crash Logs stop runs.settled) left settled).runs
-      ]
+        let settings = with_settings.0 in
+        elim ((with_settings.2).ran runs.found runs.is) [
+          | inl early ↦ (after_crash _ _ (g.may new.logs) now may (early.crash runs.settled) left settled).runs
+          | inr lines ↦
+              let run = lines.run.lines in
+              let stop = stopped _ _ run.done.lines run.behind.state run.last lines.end run.done.ends lines.is in
+              (after_crash _ _ (g.may new.logs) now may (run.leaves.crash Logs stop runs.settled) left settled).runs
+        ]
   ]

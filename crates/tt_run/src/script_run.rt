@@ -165,7 +165,10 @@ impl<'a, S: Source, A, K: Sink, L: Volume, C, B> ScriptRun<'a, S, A, K, L, C, B>
         ensures references { KeepsReferences self.old self.new }
         ensures fault { LogsRose L.Volume (result.stop ≡ Some Logs) self.old self.new }
     {
-        match self.engine.step(self.alloc, &mut self.devices.logs, request) {
+        match self
+            .engine
+            .step(self.alloc, &mut self.devices.logs, request)
+        {
             Ok(reply) => Round {
                 reply: Some(reply),
                 stop: None,

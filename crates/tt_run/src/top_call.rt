@@ -30,12 +30,7 @@ pub fn run<
     L: Volume + Send,
     C: Volume + Send,
     B: Volume + Send,
->(
-    rt: &R,
-    alloc: Global,
-    words: &[String],
-    devices: &mut Devices<S, A, K, L, C, B>,
-) -> Status
+>(rt: &R, alloc: Global, words: &[String], devices: &mut Devices<S, A, K, L, C, B>) -> Status
     // The words have no form exactly where the status says so.
     ensures usage { (result ≡ Status.Usage) ↔ (form_of (map string_bytes words.now) ≡ None) }
 

@@ -40,10 +40,10 @@ returns-in-Run-clause-attributes g c = record {
 pub returns-in-Run-clause-runs : goal.returns-in-Run-clause-runs
 returns-in-Run-clause-runs g c = λ asks. record {
   ran = λ told. inr (
-      c.in-Ok.settings,
-      are_settings (g.A.Source.left c.args.devices.now.attributes) c.in-Ok.settings c.in-Ok.ensures.range c.in-Ok.ensures.says,
-      runs_from g.S.Source g.A.Source g.K.Sink g.L.Volume c.args.devices.now c.settings_of.new.attributes c.run_script.result c.in-Ok.settings c.run_script.new.devices (c.run_script.ensures.ran told),
-    );
+    c.in-Ok.settings,
+    are_settings (g.A.Source.left c.args.devices.now.attributes) c.in-Ok.settings c.in-Ok.ensures.range c.in-Ok.ensures.says,
+    runs_from g.S.Source g.A.Source g.K.Sink g.L.Volume c.args.devices.now c.settings_of.new.attributes c.run_script.result c.in-Ok.settings c.run_script.new.devices (c.run_script.ensures.ran told),
+  );
   refused = λ refusal told is. nothing_from g.S.Source g.A.Source g.K.Sink g.L.Volume c.args.devices.now c.settings_of.new.attributes c.run_script.result c.run_script.new.devices (c.run_script.ensures.refused refusal told is);
   complete = λ bytes text settings found told script short given says is place no_script no_attributes no_sink no_logs.
       completes g.S.Source g.K.Sink g.L.Volume c.in-Ok.settings found c.args.devices.now c.run_script.new.devices c.run_script.result bytes

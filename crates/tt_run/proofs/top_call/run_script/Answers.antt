@@ -34,11 +34,11 @@ pub returns-in-Err-Failed-clause-ran : goal.returns-in-Err-Failed-clause-ran
 returns-in-Err-Failed-clause-ran g c = λ told. record {
   opened = failed_volume c.args.settings.now _;
   ran = λ found is. inl (record {
-      script = refl;
-      sink = refl;
-      others = (c.start.ensures.opens told).others found (database_opens (g.L.Volume.now c.args.devices.now.logs) found is);
-      crash = λ settled. (c.start.ensures.opens told).crash (settled_reads (g.L.Volume.now c.args.devices.now.logs) (g.L.Volume.may c.args.devices.now.logs) settled) found (database_opens (g.L.Volume.now c.args.devices.now.logs) found is);
-    });
+    script = refl;
+    sink = refl;
+    others = (c.start.ensures.opens told).others found (database_opens (g.L.Volume.now c.args.devices.now.logs) found is);
+    crash = λ settled. (c.start.ensures.opens told).crash (settled_reads (g.L.Volume.now c.args.devices.now.logs) (g.L.Volume.may c.args.devices.now.logs) settled) found (database_opens (g.L.Volume.now c.args.devices.now.logs) found is);
+  });
 }
 
 pub returns-in-Err-Failed-clause-refused : goal.returns-in-Err-Failed-clause-refused
