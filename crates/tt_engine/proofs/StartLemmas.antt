@@ -282,7 +282,7 @@ mark_stands settings old mid now r e e' ready order found is log same =
 -- ---- what a crash leaves
 
 pub still_leaves : (old new : Files) (may may' : Outcomes) → Keeps old new may may' → (r : Result Read LogRefusal) → CrashLeavesLog 0 r may → CrashLeavesLog 0 r may'
-still_leaves old new may may' keeps r leaves files left = leaves files (λ name. keeps.crash name (files name) (left name))
+still_leaves old new may may' keeps r leaves files left = leaves files (λ n. keeps.crash (LogFile n) (files (LogFile n)) (left n))
 
 pub marked_prefix : (log : Log) (now : Files) (may may' : Outcomes) (settings : Settings) (old : Files) (found : Opened) → IsOpen log now may → HasTrail log now (with_entry Mark (opened settings found (are_there old) no_sets))
     → CrashLeavesForced log now may' → LeavesPrefix (length found.entries) (begun_over settings old found) may'

@@ -3,7 +3,7 @@ use Rattle.std.specs.Prelude.{◌≡◌, ◌≤◌, ℕ, List, Option, Some, Non
 use Rattle.tt_disk.specs.declared.volume.Name.{Name}
 use Rattle.tt_disk.specs.Volume.{Files}
 use Rattle.tt_log.specs.declared.refusal.LogRefusal.{LogRefusal}
-use Rattle.tt_log.specs.Log.{MayLeave}
+use Rattle.tt_log.specs.Log.{MayLeaveLogs}
 use Rattle.tt_model.specs.Opened.{Opened}
 use Rattle.tt_model.specs.Prefix.{IsSettled, StandsForFirst, StandsForPrefix}
 use Rattle.tt_model.specs.State.{State, write_position}
@@ -23,7 +23,7 @@ OpensPrefix least s files = (found : Opened) × (opening files ≡ Ok found) × 
 
 -- the same of every map of files that a crash may leave
 abbrev pub LeavesOpening : ℕ → State → (Name → Option (List ℕ) → Type 0) → Type 0
-LeavesOpening least s may = (files : Files) → MayLeave may files → OpensPrefix least s files
+LeavesOpening least s may = (files : Files) → MayLeaveLogs may files → OpensPrefix least s files
 
 -- what opening these files finds stands for just the entries of a state that are forced
 pub record OpensForced (s : State) (files : Files) : Type 0 where
@@ -41,7 +41,7 @@ opens files = or_none (opening files)
 
 -- opening finds the same in every map of files that a crash may leave as in the present one
 abbrev pub LogsAreSettled : Files → (Name → Option (List ℕ) → Type 0) → Type 0
-LogsAreSettled now may = IsSettled opens (MayLeave may) now
+LogsAreSettled now may = IsSettled (λ files. or_none (opening files)) (MayLeaveLogs may) now
 
 -- a state behind the one that opening found
 pub record IsSinceOpening (s : State) : Type 0 where

@@ -11,7 +11,7 @@ use Rattle.tt_record.specs.Read.{entries_of}
 use Rattle.tt_log.specs.Lengths.{total}
 use Rattle.tt_log.specs.Walk.{LogContents, log_of, with_more, switched, no_switch, switches, log_header}
 use Rattle.tt_log.specs.Limits.{file_most}
-use Rattle.tt_log.specs.Log.{MayLeave, CrashLeavesLog}
+use Rattle.tt_log.specs.Log.{MayLeaveLogs, CrashLeavesLog}
 use Rattle.tt_log.proofs.FileParts.{file_push, file_switch, file_same, file_made}
 use Rattle.tt_log.proofs.Walks.{grown, switches_over, alike}
 
@@ -32,27 +32,21 @@ put_test m j c files false test apart = refl
 pub put_apart : (m j : ℕ) (c : File) (files : Files) → ¬ (j ≡ m) → put_log m c files (Log j) ≡ files (Log j)
 put_apart m j c files apart = put_test m j c files (j == m) refl apart
 
-may_test : (m k : ℕ) (c : File) (files : Files) (may : Outcomes) (b : Bool) → (k == m) ≡ b → may (Log m) c → ((n : Name) → ¬ (n ≡ Log m) → may n (files n)) → may (Log k) (if b then c else files (Log k))
+may_test : (m k : ℕ) (c : File) (files : Files) (may : Outcomes) (b : Bool) → (k == m) ≡ b → may (Log m) c → ((j : ℕ) → ¬ (Log j ≡ Log m) → may (Log j) (files (Log j))) → may (Log k) (if b then c else files (Log k))
 may_test m k c files may true test here others = subst (λ (j : ℕ). may (Log j) c) (sym (eqb-true k m test)) here
-may_test m k c files may false test here others = others (Log k) (λ same. let eq : k ≡ m = cc in let bad : true ≡ false = sym (eq-eqb k m eq) ∙ test in cc)
+may_test m k c files may false test here others = others k (λ same. let eq : k ≡ m = cc in let bad : true ≡ false = sym (eq-eqb k m eq) ∙ test in cc)
 
 -- a map that differs from one that a crash could leave at one log file at most, with that file as it was
-pub put_left : (m : ℕ) (c : File) (files : Files) (may : Outcomes) → may (Log m) c → ((n : Name) → ¬ (n ≡ Log m) → may n (files n)) → MayLeave may (put_log m c files)
-put_left m c files may here others (Ds k) = others (Ds k) (λ same. cc)
-put_left m c files may here others (Log k) = may_test m k c files may (k == m) refl here others
-put_left m c files may here others (SetImage k) = others (SetImage k) (λ same. cc)
-put_left m c files may here others (SetLog k) = others (SetLog k) (λ same. cc)
+pub put_left : (m : ℕ) (c : File) (files : Files) (may : Outcomes) → may (Log m) c → ((j : ℕ) → ¬ (Log j ≡ Log m) → may (Log j) (files (Log j))) → MayLeaveLogs may (put_log m c files)
+put_left m c files may here others k = may_test m k c files may (k == m) refl here others
 
 -- the same map, where that file could be left too
-pub all_left : (m : ℕ) (files : Files) (may : Outcomes) → may (Log m) (files (Log m)) → ((n : Name) → ¬ (n ≡ Log m) → may n (files n)) → MayLeave may files
-all_left m files may here others (Ds k) = others (Ds k) (λ same. cc)
-all_left m files may here others (Log k) = by_test (k == m) refl
+pub all_left : (m : ℕ) (files : Files) (may : Outcomes) → may (Log m) (files (Log m)) → ((j : ℕ) → ¬ (Log j ≡ Log m) → may (Log j) (files (Log j))) → MayLeaveLogs may files
+all_left m files may here others k = by_test (k == m) refl
   where
     by_test : (b : Bool) → (k == m) ≡ b → may (Log k) (files (Log k))
     by_test true test = subst (λ (j : ℕ). may (Log j) (files (Log j))) (sym (eqb-true k m test)) here
-    by_test false test = others (Log k) (λ same. let eq : k ≡ m = cc in let bad : true ≡ false = sym (eq-eqb k m eq) ∙ test in cc)
-all_left m files may here others (SetImage k) = others (SetImage k) (λ same. cc)
-all_left m files may here others (SetLog k) = others (SetLog k) (λ same. cc)
+    by_test false test = others k (λ same. let eq : k ≡ m = cc in let bad : true ≡ false = sym (eq-eqb k m eq) ∙ test in cc)
 
 -- one more batch in the last file
 pub more_in : (first m : ℕ) (body : List ℕ) (fs : List Entry) (files others : Files) (found : LogContents) → log_of first files ≡ Ok found → found.end.file ≡ m → ((j : ℕ) → ¬ (j ≡ m) → others (Log j) ≡ files (Log j))
@@ -85,23 +79,23 @@ pub record Around (first m base : ℕ) (old : Files) (may : Outcomes) : Type 1 w
   pub kept : CrashLeavesLog first (log_of first old) may
 
 -- the map with the last file as it was
-pub was : (first m base : ℕ) (old files : Files) (may : Outcomes) (a : Around first m base old may) → ((n : Name) → ¬ (n ≡ Log m) → may n (files n)) → log_of first (put_log m (old (Log m)) files) ≡ Ok a.found
+pub was : (first m base : ℕ) (old files : Files) (may : Outcomes) (a : Around first m base old may) → ((j : ℕ) → ¬ (Log j ≡ Log m) → may (Log j) (files (Log j))) → log_of first (put_log m (old (Log m)) files) ≡ Ok a.found
 was first m base old files may a others = a.kept (put_log m (old (Log m)) files) (put_left m (old (Log m)) files may (a.reads (Log m)) others) ∙ a.is
 
-pub left_same : (first m base : ℕ) (old files : Files) (may : Outcomes) → Around first m base old may → ((n : Name) → ¬ (n ≡ Log m) → may n (files n)) → gated (files (Log m)) ≡ gated (old (Log m))
+pub left_same : (first m base : ℕ) (old files : Files) (may : Outcomes) → Around first m base old may → ((j : ℕ) → ¬ (Log j ≡ Log m) → may (Log j) (files (Log j))) → gated (files (Log m)) ≡ gated (old (Log m))
     → log_of first files ≡ log_of first old
 left_same first m base old files may a others same =
     same_in first m (put_log m (old (Log m)) files) files a.found (was first m base old files may a others) a.at
     (λ j below. sym (put_apart m j (old (Log m)) files (λ eq. omega (arith, below, eq)))) (same ∙ ap gated (sym (put_here m (old (Log m)) files))) ∙ sym a.is
 
-pub left_more : (first m base : ℕ) (body : List ℕ) (fs : List Entry) (old files : Files) (may : Outcomes) → Around first m base old may → ((n : Name) → ¬ (n ≡ Log m) → may n (files n)) → gated (files (Log m)) ≡ with_batch body (gated (old (Log m)))
+pub left_more : (first m base : ℕ) (body : List ℕ) (fs : List Entry) (old files : Files) (may : Outcomes) → Around first m base old may → ((j : ℕ) → ¬ (Log j ≡ Log m) → may (Log j) (files (Log j))) → gated (files (Log m)) ≡ with_batch body (gated (old (Log m)))
     → entries_of body ≡ Some fs → no_switch fs ≡ true → base + total fs ≤ file_most → log_of first files ≡ with_more fs (log_of first old)
 left_more first m base body fs old files may a others more entries plain room =
     more_in first m body fs (put_log m (old (Log m)) files) files a.found (was first m base old files may a others) a.at
     (λ j apart. sym (put_apart m j (old (Log m)) files apart)) (more ∙ ap (λ o. with_batch body (gated o)) (sym (put_here m (old (Log m)) files))) entries plain (omega (arith, room, a.offset))
     ∙ ap (with_more fs) (sym a.is)
 
-pub left_switched : (first m base : ℕ) (body : List ℕ) (fs : List Entry) (old files : Files) (may : Outcomes) → Around first m base old may → ((n : Name) → ¬ (n ≡ Log m) → may n (files n)) → gated (files (Log m)) ≡ with_batch body (gated (old (Log m)))
+pub left_switched : (first m base : ℕ) (body : List ℕ) (fs : List Entry) (old files : Files) (may : Outcomes) → Around first m base old may → ((j : ℕ) → ¬ (Log j ≡ Log m) → may (Log j) (files (Log j))) → gated (files (Log m)) ≡ with_batch body (gated (old (Log m)))
     → entries_of body ≡ Some fs → no_switch fs ≡ false → switches m fs ≡ true → first + 1 ≤ 1000000 → m + 2 ≤ 1000000 → gated (files (Log (m + 1))) ≡ Ok (log_header (m + 1), [])
     → log_of first files ≡ switched (log_of first old)
 left_switched first m base body fs old files may a others more entries plain switch low room next =

@@ -96,7 +96,7 @@ abbrev read_16 : ℕ → List (List ℕ) → Part
 read_16 n bodies = bodies_read n 16 0 bodies (Ok ([], false))
 
 by_header : (n : ℕ) (header : List ℕ) (bodies bodies' : List (List ℕ)) (file file' : File) (test : Bool) (es : List Entry) (part : List Entry × Bool) → same_bytes header (log_header n) ≡ test
-    → part_of n file (Ok (header, bodies)) ≡ Ok (es, false) → (read_16 n bodies ≡ Ok (es, false) → read_16 n bodies' ≡ Ok part) → part_of n file' (Ok (header, bodies')) ≡ Ok part
+    → part_of (bodies_read n 16 0) n file (Ok (header, bodies)) ≡ Ok (es, false) → (read_16 n bodies ≡ Ok (es, false) → read_16 n bodies' ≡ Ok part) → part_of (bodies_read n 16 0) n file' (Ok (header, bodies')) ≡ Ok part
 by_header n header bodies bodies' file file' false es part is first next = absurd (let bad = rw is at first in cc)
 by_header n header bodies bodies' file file' true es part is first next = let there = rw is at first in rw is (next there)
 
@@ -110,8 +110,8 @@ never_bad : (n at : ℕ) (header : List ℕ) (bodies : List (List ℕ)) (test : 
 never_bad n at header bodies true es is = never n 16 0 bodies (BadBatch n at) es is
 never_bad n at header bodies false es is = cc
 
-by_gated : (n : ℕ) (found : Result (List ℕ × List (List ℕ)) GateRefusal) (body : List ℕ) (file file' : File) (es : List Entry) (part : List Entry × Bool) → part_of n file found ≡ Ok (es, false)
-    → ((bodies : List (List ℕ)) → read_16 n bodies ≡ Ok (es, false) → read_16 n (bodies ++ body ∷ []) ≡ Ok part) → part_of n file' (with_batch body found) ≡ Ok part
+by_gated : (n : ℕ) (found : Result (List ℕ × List (List ℕ)) GateRefusal) (body : List ℕ) (file file' : File) (es : List Entry) (part : List Entry × Bool) → part_of (bodies_read n 16 0) n file found ≡ Ok (es, false)
+    → ((bodies : List (List ℕ)) → read_16 n bodies ≡ Ok (es, false) → read_16 n (bodies ++ body ∷ []) ≡ Ok part) → part_of (bodies_read n 16 0) n file' (with_batch body found) ≡ Ok part
 by_gated n (Ok found) body file file' es part first next = by_header n found.0 found.1 (found.1 ++ body ∷ []) file file' (same_bytes found.0 (log_header n)) es part refl first (next found.1)
 by_gated n (Err (GateBad at)) body file file' es part first next = absurd (never_bad n at [] (whole_bodies file) (same_bytes (take 16 (bytes_of file)) (log_header n)) es first)
 by_gated n (Err Absent) body file file' es part first next = cc
@@ -122,15 +122,15 @@ pub file_push : (n : ℕ) (old new : File) (body : List ℕ) (es fs : List Entry
     → file_read n new ≡ Ok (es ++ fs, false)
 unfolding file_read
 file_push n old new body es fs first is second plain room =
-    ap (part_of n new) is ∙ by_gated n (gated old) body old new es (es ++ fs, false) first (λ bodies r. bodies_push n 16 0 bodies body es fs r second plain (omega (arith, room)))
+    ap (part_of (bodies_read n 16 0) n new) is ∙ by_gated n (gated old) body old new es (es ++ fs, false) first (λ bodies r. bodies_push n 16 0 bodies body es fs r second plain (omega (arith, room)))
 
 pub file_switch : (n : ℕ) (old new : File) (body : List ℕ) (es fs : List Entry) → file_read n old ≡ Ok (es, false) → gated new ≡ with_batch body (gated old) → entries_of body ≡ Some fs → no_switch fs ≡ false → switches n fs ≡ true
     → file_read n new ≡ Ok (es, true)
 unfolding file_read
 file_switch n old new body es fs first is second plain switch =
-    ap (part_of n new) is ∙ by_gated n (gated old) body old new es (es, true) first (λ bodies r. bodies_switch n 16 0 bodies body es fs r second plain switch)
+    ap (part_of (bodies_read n 16 0) n new) is ∙ by_gated n (gated old) body old new es (es, true) first (λ bodies r. bodies_switch n 16 0 bodies body es fs r second plain switch)
 
-same_part : (n : ℕ) (found : Result (List ℕ × List (List ℕ)) GateRefusal) (old new : File) (part : List Entry × Bool) → part_of n old found ≡ Ok (part.0, false) → part_of n new found ≡ Ok (part.0, false)
+same_part : (n : ℕ) (found : Result (List ℕ × List (List ℕ)) GateRefusal) (old new : File) (part : List Entry × Bool) → part_of (bodies_read n 16 0) n old found ≡ Ok (part.0, false) → part_of (bodies_read n 16 0) n new found ≡ Ok (part.0, false)
 same_part n (Ok found) old new part first = first
 same_part n (Err (GateBad at)) old new part first = absurd (never_bad n at [] (whole_bodies old) (same_bytes (take 16 (bytes_of old)) (log_header n)) part.0 first)
 same_part n (Err Absent) old new part first = cc
@@ -140,7 +140,7 @@ same_part n (Err GateFailed) old new part first = cc
 -- what is read without damage, and not up to a Switch, is read of the header and the batches alone
 pub file_same : (n : ℕ) (old new : File) (es : List Entry) → gated new ≡ gated old → file_read n old ≡ Ok (es, false) → file_read n new ≡ Ok (es, false)
 unfolding file_read
-file_same n old new es is first = ap (part_of n new) is ∙ same_part n (gated old) old new (es, false) first
+file_same n old new es is first = ap (part_of (bodies_read n 16 0) n new) is ∙ same_part n (gated old) old new (es, false) first
 
 pub same_self : (bytes : List ℕ) → same_bytes bytes bytes ≡ true
 same_self [] = refl
@@ -148,4 +148,4 @@ same_self (b ∷ bytes) = ap (λ (t : Bool). t && same_bytes bytes bytes) (eq-eq
 
 pub file_made : (n : ℕ) (file : File) → gated file ≡ Ok (log_header n, []) → file_read n file ≡ Ok ([], false)
 unfolding file_read
-file_made n file is = ap (part_of n file) is ∙ (let same = same_self (log_header n) in rw same refl)
+file_made n file is = ap (part_of (bodies_read n 16 0) n file) is ∙ (let same = same_self (log_header n) in rw same refl)

@@ -16,7 +16,7 @@ use Rattle.tt_log.specs.Lengths.{total}
 use Rattle.tt_log.specs.Walk.{LogContents, log_of, with_more, no_switch}
 use Rattle.tt_log.specs.Limits.{file_most}
 use Rattle.tt_record.specs.Place.{position}
-use Rattle.tt_log.specs.Log.{IsOpen, CrashLeavesLog, MayLeave, unforced, walk_end}
+use Rattle.tt_log.specs.Log.{IsOpen, CrashLeavesLog, MayLeaveLogs, unforced, walk_end}
 use Rattle.tt_log.specs.declared.log.Log.{Log}
 use Rattle.tt_record.specs.BodyLaws.{body_is_read}
 use Rattle.tt_log.proofs.Crash.{Around, more_in, left_same, left_more, all_left}
@@ -75,12 +75,12 @@ done log old new body fresh is =
     subst (λ n. gated (new n) ≡ with_batch body (gated (old n))) log.named (is ∙ ap (λ (l : List ℕ). with_batch l (gated (old log.file.name))) (body_alone log.file (old log.file.name) body fresh))
 
 -- a crash leaves the log as it was, or the batch
-pub one_or_more : (first m base : ℕ) (body : List ℕ) (old new : Files) (may may' : Outcomes) → Around first m base old may → Written m body old new may may' → (files : Files) → MayLeave may' files
+pub one_or_more : (first m base : ℕ) (body : List ℕ) (old new : Files) (may may' : Outcomes) → Around first m base old may → Written m body old new may may' → (files : Files) → MayLeaveLogs may' files
     → (log_of first files ≡ log_of first old) ⊎ (gated (files (LogFile m)) ≡ with_batch body (gated (old (LogFile m))))
-one_or_more first m base body old new may may' a w files left = by_case (w.crash (files (LogFile m)) (left (LogFile m)))
+one_or_more first m base body old new may may' a w files left = by_case (w.crash (files (LogFile m)) (left m))
   where
-    others : (n : Name) → ¬ (n ≡ LogFile m) → may n (files n)
-    others n apart = w.only.crash n apart (files n) (left n)
+    others : (j : ℕ) → ¬ (LogFile j ≡ LogFile m) → may (LogFile j) (files (LogFile j))
+    others j apart = w.only.crash (LogFile j) apart (files (LogFile j)) (left j)
 
     by_case : may (LogFile m) (files (LogFile m)) ⊎ ((gated (files (LogFile m)) ≡ gated (old (LogFile m))) ⊎ (gated (files (LogFile m)) ≡ with_batch body (gated (old (LogFile m)))))
         → (log_of first files ≡ log_of first old) ⊎ (gated (files (LogFile m)) ≡ with_batch body (gated (old (LogFile m))))
@@ -107,12 +107,12 @@ pub forced_now : (first m base : ℕ) (body : List ℕ) (fs : List Entry) (old n
 forced_now first m base body fs old new may may' f w b is =
     more_in first m body fs old new f.found f.is f.at (λ j apart. w.only.reads (LogFile j) (λ same. let eq : j ≡ m = cc in apart eq)) is b.entries b.plain (omega (arith, b.room, f.offset)) ∙ ap (with_more fs) (sym f.is)
 
-pub forced_left : (first m base : ℕ) (body : List ℕ) (fs : List Entry) (old new : Files) (may may' : Outcomes) → Around first m base old may → Written m body old new may may' → Batch base body fs → (files : Files) → MayLeave may' files
+pub forced_left : (first m base : ℕ) (body : List ℕ) (fs : List Entry) (old new : Files) (may may' : Outcomes) → Around first m base old may → Written m body old new may may' → Batch base body fs → (files : Files) → MayLeaveLogs may' files
     → (log_of first files ≡ log_of first old) ⊎ (log_of first files ≡ with_more fs (log_of first old))
 forced_left first m base body fs old new may may' a w b files left =
-    ⊎_elim (λ same. inl same) (λ more. inr (left_more first m base body fs old files may a (λ n apart. w.only.crash n apart (files n) (left n)) more b.entries b.plain b.room)) (one_or_more first m base body old new may may' a w files left)
+    ⊎_elim (λ same. inl same) (λ more. inr (left_more first m base body fs old files may a (λ j apart. w.only.crash (LogFile j) apart (files (LogFile j)) (left j)) more b.entries b.plain b.room)) (one_or_more first m base body old new may may' a w files left)
 
 pub forced_kept : (first m base : ℕ) (body : List ℕ) (fs : List Entry) (old new : Files) (may may' : Outcomes) → Around first m base old may → Written m body old new may may' → Batch base body fs
     → gated (new (LogFile m)) ≡ with_batch body (gated (old (LogFile m))) → IsSettled (LogFile m) new may' → log_of first new ≡ with_more fs (log_of first old) → CrashLeavesLog first (log_of first new) may'
 forced_kept first m base body fs old new may may' a w b is settled now files left =
-    left_more first m base body fs old files may a (λ n apart. w.only.crash n apart (files n) (left n)) (ap gated (settled (files (LogFile m)) (left (LogFile m))) ∙ is) b.entries b.plain b.room ∙ sym now
+    left_more first m base body fs old files may a (λ j apart. w.only.crash (LogFile j) apart (files (LogFile j)) (left j)) (ap gated (settled (files (LogFile m)) (left m)) ∙ is) b.entries b.plain b.room ∙ sym now

@@ -32,17 +32,17 @@ other_bytes as' bs false is apart = is
 abbrev gap : ℕ → Part
 gap n = Err (Gap n)
 
-other_header : (n : ℕ) (f : List ℕ) (bodies : List (List ℕ)) (damage : Option ℕ) → same_bytes (take 16 f) (log_header n) ≡ false → part_of n (Some f) (with_header (take 16 f) bodies damage) ≡ Err (Gap n)
+other_header : (n : ℕ) (f : List ℕ) (bodies : List (List ℕ)) (damage : Option ℕ) → same_bytes (take 16 f) (log_header n) ≡ false → part_of (bodies_read n 16 0) n (Some f) (with_header (take 16 f) bodies damage) ≡ Err (Gap n)
 other_header n f bodies None other = ap (λ (b : Bool). if b then bodies_read n 16 0 bodies (Ok ([], false)) else gap n) other
 other_header n f bodies (Some at) other = ap (λ (b : Bool). if b then bodies_read n 16 0 (whole_bodies (Some f)) (Err (BadBatch n at)) else gap n) other
 
 -- a file that doesn't begin as it should
-gap_by_length : (n : ℕ) (f : List ℕ) (b : Bool) → ltb 16 (length f) ≡ b → ¬ (IsHeaded n (Some f)) → part_of n (Some f) (gated (Some f)) ≡ Err (Gap n)
+gap_by_length : (n : ℕ) (f : List ℕ) (b : Bool) → ltb 16 (length f) ≡ b → ¬ (IsHeaded n (Some f)) → part_of (bodies_read n 16 0) n (Some f) (gated (Some f)) ≡ Err (Gap n)
 unfolding walked_at
-gap_by_length n f false is other = ap (λ (b : Bool). part_of n (Some f) (if b then with_header (take 16 f) (walked_at 16 f).0 (walked_at 16 f).1 else Err BadHeader)) is
+gap_by_length n f false is other = ap (λ (b : Bool). part_of (bodies_read n 16 0) n (Some f) (if b then with_header (take 16 f) (walked_at 16 f).0 (walked_at 16 f).1 else Err BadHeader)) is
 gap_by_length n f true is other =
     let long : 16 < length f = ltb-true 16 (length f) is in
-    ap (part_of n (Some f)) (gated_long f long) ∙ other_header n f (walked_at 16 f).0 (walked_at 16 f).1 (other_bytes (take 16 f) (log_header n) (same_bytes (take 16 f) (log_header n)) refl (λ same. other (long, same)))
+    ap (part_of (bodies_read n 16 0) n (Some f)) (gated_long f long) ∙ other_header n f (walked_at 16 f).0 (walked_at 16 f).1 (other_bytes (take 16 f) (log_header n) (same_bytes (take 16 f) (log_header n)) refl (λ same. other (long, same)))
 
 pub file_gap : (n : ℕ) (o : File) → ¬ (IsHeaded n o) → file_read n o ≡ Err (Gap n)
 unfolding file_read
@@ -58,7 +58,7 @@ header_refused n o (GateBad at) r is holds read = absurd (read at refl)
 header_refused n o GateFailed r is holds read = inl is
 
 right_header : (n : ℕ) (f : List ℕ) (bodies : List (List ℕ)) (damage : Option ℕ) → same_bytes (take 16 f) (log_header n) ≡ true → bodies ≡ whole_bodies (Some f)
-    → part_of n (Some f) (with_header (take 16 f) bodies damage) ≡ bodies_read n 16 0 bodies (end_with n damage)
+    → part_of (bodies_read n 16 0) n (Some f) (with_header (take 16 f) bodies damage) ≡ bodies_read n 16 0 bodies (end_with n damage)
 right_header n f bodies None same is = ap (λ (b : Bool). if b then bodies_read n 16 0 bodies (Ok ([], false)) else gap n) same
 right_header n f bodies (Some at) same is =
     ap (λ (b : Bool). if b then bodies_read n 16 0 (whole_bodies (Some f)) (Err (BadBatch n at)) else gap n) same
@@ -69,5 +69,5 @@ pub file_headed : (n : ℕ) (o : File) → IsHeaded n o → file_read n o ≡ re
 unfolding file_read rest_read whole_bodies walked_at
 file_headed n None h = absurd (omega (arith, h.0))
 file_headed n (Some f) h =
-    ap (part_of n (Some f)) (gated_long f h.0)
+    ap (part_of (bodies_read n 16 0) n (Some f)) (gated_long f h.0)
     ∙ right_header n f (walked_at 16 f).0 (walked_at 16 f).1 (ap (λ (l : List ℕ). same_bytes l (log_header n)) h.1 ∙ same_self (log_header n)) refl

@@ -57,7 +57,7 @@ none_part : (c : Bool) (e : LogRefusal) (p : List Entry × Bool) → (if c then 
 none_part true e p is = let same : ([], false) ≡ p = same_part ([], false) p is in (sym (ap (λ (q : List Entry × Bool). q.0) same), sym (ap (λ (q : List Entry × Bool). q.1) same))
 none_part false e p is = cc
 
-short_part : (o : File) (r : Result (List ℕ × List (List ℕ)) GateRefusal) → gated o ≡ r → size_of o ≤ 17 → (p : List Entry × Bool) → part_of 0 o r ≡ Ok p → (p.0 ≡ []) × (p.1 ≡ false)
+short_part : (o : File) (r : Result (List ℕ × List (List ℕ)) GateRefusal) → gated o ≡ r → size_of o ≤ 17 → (p : List Entry × Bool) → part_of (bodies_read 0 16 0) 0 o r ≡ Ok p → (p.0 ≡ []) × (p.1 ≡ false)
 short_part o (Ok found) is short p read =
     let none : found.1 ≡ [] = none_in_short o found.0 found.1 short is in
     none_part (same_bytes found.0 (log_header 0)) (Gap 0) p

@@ -7,7 +7,7 @@ use Rattle.tt_disk.specs.declared.volume.Name.TheVariants.{Log as LogFile}
 use Rattle.tt_log.specs.declared.refusal.LogRefusal.{LogRefusal}
 use Rattle.tt_log.specs.Walk.{LogContents, file_read, on_part, walk, log_of, since, is_since, no_switch}
 use Rattle.tt_record.specs.Place.{position}
-use Rattle.tt_log.specs.Log.{MayLeave, CrashLeavesLog, IsOpen, is_between, OnlyBetween, walk_end, entries_in, or_none, unforced}
+use Rattle.tt_log.specs.Log.{MayLeaveLogs, CrashLeavesLog, IsOpen, is_between, OnlyBetween, walk_end, entries_in, or_none, unforced}
 use Rattle.tt_log.proofs.Crash.{same_in}
 use Rattle.std.specs.Prelude.{IsOk}
 use Rattle.tt_disk.specs.Volume.{Files, Outcomes}
@@ -25,12 +25,12 @@ use Rattle.tt_log.proofs.Later.{log_from_later}
 abbrev put_range : ℕ → ℕ → Files → Files → Files
 put_range from end old files n = if is_between from end n then old n else files n
 
-range_left : (from end : ℕ) (old files : Files) (may : Outcomes) → ((n : Name) → may n (old n)) → ((n : Name) → is_between from end n ≡ false → may n (files n)) → MayLeave may (put_range from end old files)
-range_left from end old files may reads others n = by_test (is_between from end n) refl
+range_left : (from end : ℕ) (old files : Files) (may : Outcomes) → ((n : Name) → may n (old n)) → ((k : ℕ) → is_between from end (LogFile k) ≡ false → may (LogFile k) (files (LogFile k))) → MayLeaveLogs may (put_range from end old files)
+range_left from end old files may reads others k = by_test (is_between from end (LogFile k)) refl
   where
-    by_test : (b : Bool) → is_between from end n ≡ b → may n (if b then old n else files n)
-    by_test true test = reads n
-    by_test false test = others n test
+    by_test : (b : Bool) → is_between from end (LogFile k) ≡ b → may (LogFile k) (if b then old (LogFile k) else files (LogFile k))
+    by_test true test = reads (LogFile k)
+    by_test false test = others k test
 
 range_apart : (from end : ℕ) (old files : Files) (n : Name) → is_between from end n ≡ false → put_range from end old files n ≡ files n
 range_apart from end old files n out = ap (λ (b : Bool). if b then old n else files n) out
@@ -70,7 +70,7 @@ below_gone first k m base file old new may may' f low above high top reads only 
   now = log_above k old new (λ j le. only.reads (LogFile j) (out_high 0 file j (omega (arith, le, above)))) ∙ log_later first k m old f.found low high f.is f.at ∙ ap (since k) (sym f.is);
   crash = λ kept files left.
       let files' = put_range 0 file old files in
-      let former : log_of first files' ≡ Ok f.found = kept files' (range_left 0 file old files may reads (λ n out. only.crash n out (files n) (left n))) ∙ f.is in
+      let former : log_of first files' ≡ Ok f.found = kept files' (range_left 0 file old files may reads (λ j out. only.crash (LogFile j) out (files (LogFile j)) (left j))) ∙ f.is in
       log_above k files' files (λ j le. sym (range_apart 0 file old files (LogFile j) (out_high 0 file j (omega (arith, le, above)))))
       ∙ log_later first k m files' f.found low high former f.at ∙ ap (since k) (sym f.is);
 }
@@ -85,7 +85,7 @@ above_gone first k m base end old mid new may may1 may2 f reads s only =
       now = same_in k m mid new g.found (s.now ∙ g.is) g.at (λ j below. only.reads (LogFile j) (out_low (m + 1) end j (omega (arith, below)))) (ap gated (only.reads (LogFile m) (out_low (m + 1) end m (omega arith)))) ∙ sym g.is;
       crash = λ kept files left.
           let files' = put_range (m + 1) end mid files in
-          let former : log_of k files' ≡ Ok g.found = s.crash kept files' (range_left (m + 1) end mid files may1 reads (λ n out. only.crash n out (files n) (left n))) ∙ g.is in
+          let former : log_of k files' ≡ Ok g.found = s.crash kept files' (range_left (m + 1) end mid files may1 reads (λ j out. only.crash (LogFile j) out (files (LogFile j)) (left j))) ∙ g.is in
           same_in k m files' files g.found former g.at (λ j below. sym (range_apart (m + 1) end mid files (LogFile j) (out_low (m + 1) end j (omega (arith, below)))))
           (ap gated (sym (range_apart (m + 1) end mid files (LogFile m) (out_low (m + 1) end m (omega arith))))) ∙ sym g.is;
     }

@@ -15,7 +15,7 @@ use Rattle.tt_record.specs.Read.{entries_of}
 use Rattle.tt_log.specs.declared.log.Log.{Log}
 use Rattle.tt_log.specs.Walk.{walk, on_part, file_read, nothing, log_of, with_more, switched, switches, log_header}
 use Rattle.tt_record.specs.Place.{position}
-use Rattle.tt_log.specs.Log.{MayLeave, CrashLeavesLog, CrashLeavesForced, OnlyTwo, IsUntouched, unforced, walk_end}
+use Rattle.tt_log.specs.Log.{MayLeaveLogs, CrashLeavesLog, CrashLeavesForced, OnlyTwo, IsUntouched, unforced, walk_end}
 use Rattle.tt_log.proofs.Crash.{Around, put_log, put_apart, put_left, same_in, switched_in, left_switched}
 use Rattle.tt_log.proofs.FileParts.{file_made}
 use Rattle.tt_log.proofs.Forcing.{IsFound, Written, one_or_more}
@@ -46,7 +46,7 @@ pub made_left : (first m base : ℕ) (now1 now2 : Files) (may1 may2 : Outcomes) 
 made_left first m base now1 now2 may1 may2 a only files left =
     let c = now1 (LogFile (m + 1)) in
     let files' = put_log (m + 1) c files in
-    let former : log_of first files' ≡ Ok a.found = a.kept files' (put_left (m + 1) c files may1 (a.reads (LogFile (m + 1))) (λ n apart. only.crash n apart (files n) (left n))) ∙ a.is in
+    let former : log_of first files' ≡ Ok a.found = a.kept files' (put_left (m + 1) c files may1 (a.reads (LogFile (m + 1))) (λ j apart. only.crash (LogFile j) apart (files (LogFile j)) (left j))) ∙ a.is in
     same_in first m files' files a.found former a.at (λ j below. sym (put_apart (m + 1) j c files (λ eq. omega (arith, below, eq))))
     (ap gated (sym (put_apart (m + 1) m c files (λ eq. omega (arith, eq))))) ∙ sym a.is
 
@@ -85,14 +85,14 @@ pub record NextMade (first m : ℕ) (now : Files) (may : Outcomes) : Type 0 wher
 next_apart : (m : ℕ) → ¬ (LogFile (m + 1) ≡ LogFile m)
 next_apart m = apart_next (LogFile (m + 1)) (m + 1) m refl (λ eq. omega (arith, eq))
 
-more_switched : (first m base : ℕ) (body : List ℕ) (old new files : Files) (may may' : Outcomes) → Around first m base old may → NextMade first m old may → Written m body old new may may' → entries_of body ≡ Some (Switch (m + 1) ∷ []) → MayLeave may' files
+more_switched : (first m base : ℕ) (body : List ℕ) (old new files : Files) (may may' : Outcomes) → Around first m base old may → NextMade first m old may → Written m body old new may may' → entries_of body ≡ Some (Switch (m + 1) ∷ []) → MayLeaveLogs may' files
     → gated (files (LogFile m)) ≡ with_batch body (gated (old (LogFile m))) → log_of first files ≡ switched (log_of first old)
 more_switched first m base body old new files may may' a t w is left more =
-    left_switched first m base body (Switch (m + 1) ∷ []) old files may a (λ n apart. w.only.crash n apart (files n) (left n)) more is refl (switches_next m t.below) (omega (arith, t.below, t.low)) (omega (arith, t.below))
-    (ap gated (t.settled (files (LogFile (m + 1))) (w.only.crash (LogFile (m + 1)) (next_apart m) (files (LogFile (m + 1))) (left (LogFile (m + 1))))) ∙ t.empty)
+    left_switched first m base body (Switch (m + 1) ∷ []) old files may a (λ j apart. w.only.crash (LogFile j) apart (files (LogFile j)) (left j)) more is refl (switches_next m t.below) (omega (arith, t.below, t.low)) (omega (arith, t.below))
+    (ap gated (t.settled (files (LogFile (m + 1))) (w.only.crash (LogFile (m + 1)) (next_apart m) (files (LogFile (m + 1))) (left (m + 1)))) ∙ t.empty)
 
 pub switched_left : (first m base : ℕ) (body : List ℕ) (old new : Files) (may may' : Outcomes) → Around first m base old may → NextMade first m old may → Written m body old new may may' → entries_of body ≡ Some (Switch (m + 1) ∷ [])
-    → (files : Files) → MayLeave may' files → (log_of first files ≡ log_of first old) ⊎ (log_of first files ≡ switched (log_of first old))
+    → (files : Files) → MayLeaveLogs may' files → (log_of first files ≡ log_of first old) ⊎ (log_of first files ≡ switched (log_of first old))
 switched_left first m base body old new may may' a t w is files left =
     ⊎_elim (λ same. inl same) (λ more. inr (more_switched first m base body old new files may may' a t w is left more)) (one_or_more first m base body old new may may' a w files left)
 
@@ -106,7 +106,7 @@ switched_now first m base body old new may may' f t w is more =
 pub switched_kept : (first m base : ℕ) (body : List ℕ) (old new : Files) (may may' : Outcomes) → Around first m base old may → NextMade first m old may → Written m body old new may may' → entries_of body ≡ Some (Switch (m + 1) ∷ [])
     → gated (new (LogFile m)) ≡ with_batch body (gated (old (LogFile m))) → IsSettled (LogFile m) new may' → log_of first new ≡ switched (log_of first old) → CrashLeavesLog first (log_of first new) may'
 switched_kept first m base body old new may may' a t w is more settled now files left =
-    more_switched first m base body old new files may may' a t w is left (ap gated (settled (files (LogFile m)) (left (LogFile m))) ∙ more) ∙ sym now
+    more_switched first m base body old new files may may' a t w is left (ap gated (settled (files (LogFile m)) (left m)) ∙ more) ∙ sym now
 
 pub switched_end : (r : Standing) (m base : ℕ) → IsFound r m base → IsOk (switched r) × (walk_end (switched r) ≡ position (m + 1) 0)
 switched_end r m base f = (subst (λ (q : Standing). IsOk (switched q)) (sym f.is) refl, ap (λ (q : Standing). walk_end (switched q)) f.is ∙ ap (λ (k : ℕ). position (k + 1) 0) f.at)

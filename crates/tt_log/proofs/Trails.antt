@@ -9,7 +9,7 @@ use Rattle.tt_log.specs.Lengths.{total}
 use Rattle.tt_record.specs.Place.{position_of, next_position, position}
 use Rattle.tt_log.specs.declared.log.Log.{Log}
 use Rattle.tt_log.specs.Walk.{placed, log_of, with_more, switched}
-use Rattle.tt_log.specs.Log.{MayLeave, CrashLeavesAll, IsOpen, Gave, unforced, write_position_of, walk_end, entries_in, forces_earlier, room_made, forced_of, trail_of}
+use Rattle.tt_log.specs.Log.{MayLeaveLogs, CrashLeavesAll, IsOpen, Gave, unforced, write_position_of, walk_end, entries_in, forces_earlier, room_made, forced_of, trail_of}
 use Rattle.tt_log.proofs.Walks.{placed_more, Standing}
 use Rattle.tt_log.proofs.Forcing.{more_end, more_none}
 use Rattle.tt_disk.specs.Volume.{Files, Outcomes}
@@ -88,7 +88,7 @@ gave_all log now may r o (inr is) =
 
 -- once the entries are forced, a crash leaves all, whatever came of a change of file behind them
 pub leaves_all : (log : Log) (now : Files) (may may' : Outcomes) (first : ℕ) (r : Standing) → first ≡ log.first_file → IsOpen log now may → r ≡ with_more (unforced log) (log_of log.first_file now)
-    → ((files : Files) → MayLeave may' files → (log_of first files ≡ r) ⊎ (log_of first files ≡ switched r)) → CrashLeavesAll log now may'
+    → ((files : Files) → MayLeaveLogs may' files → (log_of first files ≡ r) ⊎ (log_of first files ≡ switched r)) → CrashLeavesAll log now may'
 leaves_all log now may may' first r same o is leaves files left =
     subst (λ k. Gave (log_of k files) (trail_of log now) (write_position_of log)) same
     (gave_all log now may (log_of first files) o (⊎_elim (λ e. inl (e ∙ is)) (λ e. inr (e ∙ ap switched is)) (leaves files left)))
@@ -101,5 +101,5 @@ all_forced log log' now now' first found none =
       ap (λ es. entries_in (with_more es (log_of log'.first_file now'))) none ∙ ap entries_in (more_none (log_of log'.first_file now')) ∙ forced,
     )
 
-pub kept_at : (first first' : ℕ) (now : Files) (may : Outcomes) → first' ≡ first → ((files : Files) → MayLeave may files → log_of first files ≡ log_of first now) → (files : Files) → MayLeave may files → log_of first' files ≡ log_of first' now
-kept_at first first' now may same kept = subst (λ k. (files : Files) → MayLeave may files → log_of k files ≡ log_of k now) (sym same) kept
+pub kept_at : (first first' : ℕ) (now : Files) (may : Outcomes) → first' ≡ first → ((files : Files) → MayLeaveLogs may files → log_of first files ≡ log_of first now) → (files : Files) → MayLeaveLogs may files → log_of first' files ≡ log_of first' now
+kept_at first first' now may same kept = subst (λ k. (files : Files) → MayLeaveLogs may files → log_of k files ≡ log_of k now) (sym same) kept

@@ -17,7 +17,7 @@ use Rattle.tt_log.specs.Limits.{log_names_end}
 use Rattle.tt_log.specs.Walk.{LogContents, file_read, is_since, log_of, nothing, switched, with_more}
 use Rattle.tt_log.specs.Opening.{started}
 use Rattle.tt_log.specs.Visitor.{Visits, VisitsLog, VisitsPart}
-use Rattle.tt_log.specs.Log.{MayLeave, IsOpen, CrashLeavesLog, CrashLeavesForced, CrashLeavesForcedOrAll, ForcedBeforeNextFile, GoneInOrder, AddsFile, AddsNone, IsUntouched, OnlyTwo, OnlyBetween, current_file_of, entries_in, first_file_of, forced_of, forces_earlier, trail_of, unforced, room_made}
+use Rattle.tt_log.specs.Log.{MayLeaveLogs, IsOpen, CrashLeavesLog, CrashLeavesForced, CrashLeavesForcedOrAll, ForcedBeforeNextFile, GoneInOrder, AddsFile, AddsNone, IsUntouched, OnlyTwo, OnlyBetween, current_file_of, entries_in, first_file_of, forced_of, forces_earlier, trail_of, unforced, room_made}
 
 -- this holds of the log file of this number
 abbrev pub OfFile : {V : Type 0} → Ghosts V → ℕ → V → (File → Type 0) → Type 0
@@ -42,7 +42,7 @@ CrashLeavesEmptyOn g volume = g.told → CrashLeavesLog 0 (Ok nothing) (g.may vo
 -- a crash leaves no log but the one without entries, where one before left a first file no longer than a new one
 abbrev pub CrashLeavesNoEntryOn : {V : Type 0} → Ghosts V → V → V → Type 0
 CrashLeavesNoEntryOn g old new = g.told → CrashLeavesAtMost new_file_length (g.may old (LogFile 0))
-    → (files : Files) → MayLeave (g.may new) files → (found : LogContents) → log_of 0 files ≡ Ok found → found ≡ nothing
+    → (files : Files) → MayLeaveLogs (g.may new) files → (found : LogContents) → log_of 0 files ≡ Ok found → found ≡ nothing
 
 -- a call of the volume failed, memory was wanting, or the files from that of a position on are refused so
 abbrev pub OpeningRefusedOn : {V : Type 0} → Ghosts V → Position → V → LogRefusal → Type 0

@@ -34,13 +34,14 @@ file_size_of log = log.file_size
 abbrev pub buffer_size_of : Log → ℕ
 buffer_size_of log = length log.buffer.items
 
--- these files may be what a crash leaves
-abbrev pub MayLeave : Outcomes → Files → Type 0
-MayLeave may files = (name : Name) → may name (files name)
+-- These log files may be what a crash leaves. Of files of other names nothing is asked, so that it says the same of the log files alone
+-- and of all files of a database.
+abbrev pub MayLeaveLogs : Outcomes → Files → Type 0
+MayLeaveLogs may files = (n : ℕ) → may (LogFile n) (files (LogFile n))
 
 -- in every map of files that a crash may leave, the walk from this file finds just this
 abbrev pub CrashLeavesLog : ℕ → Result LogContents LogRefusal → Outcomes → Type 0
-CrashLeavesLog first found may = (files : Files) → MayLeave may files → log_of first files ≡ found
+CrashLeavesLog first found may = (files : Files) → MayLeaveLogs may files → log_of first files ≡ found
 
 abbrev pub walk_end : Result LogContents LogRefusal → Position
 walk_end (Ok found) = found.end
@@ -231,7 +232,7 @@ pub record Gave (r : Result LogContents LogRefusal) (es : List (Position × Entr
 
 -- in every map of files that a crash may leave, the walk from the log's first file gives what is forced, or all entries
 abbrev pub CrashLeavesForcedOrAll : Log → Files → Outcomes → Type 0
-CrashLeavesForcedOrAll log now may = (files : Files) → MayLeave may files → (log_of log.first_file files ≡ log_of log.first_file now) ⊎ Gave (log_of log.first_file files) (trail_of log now) (write_position_of log)
+CrashLeavesForcedOrAll log now may = (files : Files) → MayLeaveLogs may files → (log_of log.first_file files ≡ log_of log.first_file now) ⊎ Gave (log_of log.first_file files) (trail_of log now) (write_position_of log)
 
 -- a file is as it was, and a crash leaves of it only what it could leave before
 pub record IsUntouched (name : Name) (old new : Files) (may_old may_new : Outcomes) : Type 0 where
@@ -240,7 +241,7 @@ pub record IsUntouched (name : Name) (old new : Files) (may_old may_new : Outcom
 
 -- in every map of files that a crash may leave, the walk gives all entries
 abbrev pub CrashLeavesAll : Log → Files → Outcomes → Type 0
-CrashLeavesAll log now may = (files : Files) → MayLeave may files → Gave (log_of log.first_file files) (trail_of log now) (write_position_of log)
+CrashLeavesAll log now may = (files : Files) → MayLeaveLogs may files → Gave (log_of log.first_file files) (trail_of log now) (write_position_of log)
 
 -- the file behind the current one is untouched; or all entries are forced, where a crash before could leave just the forced ones
 abbrev pub ForcedBeforeNextFile : Log → Files → Files → Outcomes → Outcomes → Type 0

@@ -90,16 +90,17 @@ same_bytes [] (b ∷ bs) = false
 same_bytes (a ∷ as') [] = false
 same_bytes (a ∷ as') (b ∷ bs) = (a == b) && same_bytes as' bs
 
-abbrev pub part_of : ℕ → File → Result (List ℕ × List (List ℕ)) GateRefusal → Part
-part_of n file (Ok found) = if same_bytes found.0 (log_header n) then bodies_read n first_gate_at 0 found.1 (Ok ([], false)) else Err (Gap n)
-part_of n file (Err (GateBad at)) = if same_bytes (take header_length (bytes_of file)) (log_header n) then bodies_read n first_gate_at 0 (whole_bodies file) (Err (BadBatch n at)) else Err (Gap n)
-part_of n file (Err Absent) = Err (Gap n)
-part_of n file (Err BadHeader) = Err (Gap n)
-part_of n file (Err GateFailed) = Err (Gap n)
+-- what a log file says whose batches are read so: those behind its header, and its first damage, or its end
+abbrev pub part_of : (List (List ℕ) → Part → Part) → ℕ → File → Result (List ℕ × List (List ℕ)) GateRefusal → Part
+part_of read n file (Ok found) = if same_bytes found.0 (log_header n) then read found.1 (Ok ([], false)) else Err (Gap n)
+part_of read n file (Err (GateBad at)) = if same_bytes (take header_length (bytes_of file)) (log_header n) then read (whole_bodies file) (Err (BadBatch n at)) else Err (Gap n)
+part_of read n file (Err Absent) = Err (Gap n)
+part_of read n file (Err BadHeader) = Err (Gap n)
+part_of read n file (Err GateFailed) = Err (Gap n)
 
 -- what a log file says, or its first damage
 unfoldable pub file_read : ℕ → File → Part
-file_read n file = part_of n file (gated file)
+file_read n file = part_of (bodies_read n first_gate_at 0) n file (gated file)
 
 -- entries with their positions, and where they end
 pub record LogContents : Type 0 where

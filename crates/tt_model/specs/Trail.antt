@@ -41,7 +41,7 @@ placed_length e = length_of e.entry
 
 -- the end of an entry: its position, with its length added to the offset
 abbrev pub placed_end : Placed → Position
-placed_end e = end_of e.at (placed_length e)
+placed_end e = end_of e.at (length_of e.entry)
 
 -- the end of a trail; of the empty one, the end that opening found
 abbrev pub trail_end : Position → Trail → Position

@@ -10,13 +10,10 @@ use Rattle.tt_record.specs.declared.entry.Entry.{Entry}
 use Rattle.tt_record.specs.declared.entry.Entry.TheVariants.{Change, Commit, Abort, Mark, Switch}
 use Rattle.tt_record.specs.Limits.{places_end, transactions_end}
 
--- a table's id, the length of a row, and the row
-abbrev pub full_bytes : ℕ → Row → List ℕ
-full_bytes table row = 1 ∷ (big_endian 4 table ++ (big_endian 2 (length (row_bytes row)) ++ row_bytes row))
-
+-- a full cell has a table's id, the length of a row, and the row
 abbrev pub cell_bytes : Cell → List ℕ
 cell_bytes Empty = 0 ∷ []
-cell_bytes (Full table row) = full_bytes table row
+cell_bytes (Full table row) = 1 ∷ (big_endian 4 table ++ (big_endian 2 (length (row_bytes row)) ++ row_bytes row))
 
 abbrev pub entry_bytes : Entry → List ℕ
 entry_bytes (Change transaction place before after) = 1 ∷ (big_endian 8 transaction ++ (big_endian 4 place ++ (cell_bytes before ++ cell_bytes after)))

@@ -1,5 +1,6 @@
 -- What is read at the front of bytes is what stands there.
 use Rattle.std.proofs.Common.{◌≡◌, ◌≤◌, ◌<◌, ◌+◌, ◌*◌, ◌^◌, ◌==◌, ℕ, suc, Bool, true, false, ◌&&◌, List, [], ◌∷◌, ◌++◌, length, take, drop, nat_le, nat_lt, if◌then◌else◌, refl, sym, ap, ap₂, ◌∙◌, subst, arith, append_assoc, length-append, le-leb, inl, inr, ◌⊎◌, Option, Some, None}
+use Rattle.std.specs.Prelude.{option_and_then}
 use Rattle.std.proofs.lemmas.Bool.{leb-true, ltb-true, lt-ltb, eqb-true}
 use Rattle.std.proofs.lemmas.List.{take-append-drop, drop-drop, length-drop, length-take-le}
 use Rattle.std.proofs.Math.Seq.{take-append_seam, drop-append_seam}
@@ -16,7 +17,7 @@ use Rattle.tt_value.specs.declared.value.Cell.TheVariants.{Empty, Full}
 use Rattle.tt_record.specs.declared.entry.Entry.{Entry}
 use Rattle.tt_record.specs.declared.entry.Entry.TheVariants.{Change, Commit, Abort, Mark, Switch}
 use Rattle.tt_record.specs.Entry.{cell_bytes, entry_bytes, length_of, of_one_table, IsTransaction, IsChange, IsEntry, BeginsWith}
-use Rattle.tt_record.specs.Read.{transaction_at, full_of, full_at, cell_at, with_second, with_first, cells_at, change_of, changed_at, with_transaction, change_at, switch_at, committed, aborted, entry_at}
+use Rattle.tt_record.specs.Read.{transaction_at, full_of, full_at, cell_at, with_second, cells_of, cells_at, change_of, changed_at, change_at, switch_at, committed, aborted, entry_at}
 
 -- ---- tests
 
@@ -151,7 +152,7 @@ takes_second z a (Some c) y b first is e =
     let (table, same) = found (of_one_table a.0 c.0) (Some (a.0, c.0, a.1 + c.1)) y e in
     triple_same z (a.0, c.0, a.1 + c.1) y same (two_cells z a.0 c.0 a.1 c.1 first (takes_cell (drop a.1 z) c (drop_bytes a.1 z b) is) table)
 
-takes_first : (z : List ℕ) (o : Option (Cell × ℕ)) (y : Cell × Cell × ℕ) → AreBytes z → cell_at z ≡ o → with_first o z ≡ Some y → TakesCells z y.0 y.1 y.2
+takes_first : (z : List ℕ) (o : Option (Cell × ℕ)) (y : Cell × Cell × ℕ) → AreBytes z → cell_at z ≡ o → cells_of o (λ n. cell_at (drop n z)) ≡ Some y → TakesCells z y.0 y.1 y.2
 takes_first z None y b is e = cc
 takes_first z (Some a) y b is e = takes_second z a (cell_at (drop a.1 z)) y b (takes_cell z a b is) refl e
 
@@ -247,7 +248,6 @@ takes_changed t z (Some (before, after, k)) y b h four low is e =
     (omega (arith, cells.count, length-append (big_endian 8 t) (big_endian 4 p ++ both_bytes), length-big_endian 8 t, length-append (big_endian 4 p) both_bytes, length-big_endian 4 p)))
 
 takes_placed : (t : ℕ) (z : List ℕ) (y : Entry × ℕ) → AreBytes z → TakesTransaction z t → changed_at t (drop 8 z) ≡ Some y → Takes (1 ∷ z) y.0 y.1
-unfolding changed_at
 takes_placed t z y b h e =
     let p = number 4 (drop 8 z) in
     let cells = cells_at (drop 4 (drop 8 z)) in
@@ -255,7 +255,7 @@ takes_placed t z y b h e =
     let (four, low) = both (nat_le 4 (length (drop 8 z))) (nat_lt p 2097152) test in
     takes_changed t z cells y b h (leb-true 4 (length (drop 8 z)) four) (ltb-true p 2097152 low) refl same
 
-takes_change : (z : List ℕ) (o : Option ℕ) (y : Entry × ℕ) → AreBytes z → transaction_at z ≡ o → with_transaction o z ≡ Some y → Takes (1 ∷ z) y.0 y.1
+takes_change : (z : List ℕ) (o : Option ℕ) (y : Entry × ℕ) → AreBytes z → transaction_at z ≡ o → option_and_then (λ t. changed_at t (drop 8 z)) o ≡ Some y → Takes (1 ∷ z) y.0 y.1
 takes_change z None y b is e = cc
 takes_change z (Some t) y b is e = takes_placed t z y b (takes_transaction z t b is) e
 
@@ -264,7 +264,7 @@ at_kind k kind z y is t = let P : ℕ → Type 0 = λ j. Takes (j ∷ z) y.0 y.1
 
 -- what is read stands at the front
 pub takes : (z : List ℕ) (y : Entry × ℕ) → AreBytes z → entry_at z ≡ Some y → Takes z y.0 y.1
-unfolding entry_at change_at
+unfolding entry_at change_at cells_at
 takes [] y b e = cc
 takes (kind ∷ z) y b e =
     let rest : AreBytes z = λ i. b (suc i) in
@@ -317,14 +317,14 @@ cells_again a b more is_a is_b table =
     let flat : z ≡ cell_bytes a ++ (cell_bytes b ++ more) = append_assoc (cell_bytes a) (cell_bytes b) more in
     let first : cell_at z ≡ Some (cell_with a (length (cell_bytes a))) = ap cell_at flat ∙ cell_again a (cell_bytes b ++ more) is_a in
     let rest : drop (length (cell_bytes a)) z ≡ cell_bytes b ++ more = ap (drop (length (cell_bytes a))) flat ∙ drop-append_seam (cell_bytes a) (cell_bytes b ++ more) in
-    ap (λ o. with_first o z) first
+    ap (λ o. cells_of o (λ n. cell_at (drop n z))) first
     ∙ ap (λ l. with_second (cell_with a (length (cell_bytes a))) (cell_at l)) rest
     ∙ ap (with_second (cell_with a (length (cell_bytes a)))) (cell_again b more is_b)
     ∙ ap (λ t. if t then Some (cells_with a b (length (cell_bytes a) + length (cell_bytes b))) else None) table
     ∙ ap (λ k. Some (cells_with a b k)) (sym (length-append (cell_bytes a) (cell_bytes b)))
 
 change_again : (t p : ℕ) (a b : Cell) (more : List ℕ) → IsChange t p a b → change_at ((big_endian 8 t ++ (big_endian 4 p ++ (cell_bytes a ++ cell_bytes b))) ++ more) ≡ Some (entry_with (Change t p a b) (13 + length (cell_bytes a ++ cell_bytes b)))
-unfolding change_at changed_at
+unfolding change_at cells_at
 change_again t p a b more range =
     let cells = cell_bytes a ++ cell_bytes b in
     let z = (big_endian 8 t ++ (big_endian 4 p ++ cells)) ++ more in
@@ -335,7 +335,7 @@ change_again t p a b more range =
     let behind_place : drop 4 (drop 8 z) ≡ cells ++ more = ap (drop 4) behind_number ∙ drop-big_endian 4 p (cells ++ more) in
     let four : nat_le 4 (length (drop 8 z)) ≡ true = le-leb 4 (length (drop 8 z)) (omega (arith, ap length behind_number, length-append (big_endian 4 p) (cells ++ more), length-big_endian 4 p)) in
     let both_read : cells_at (drop 4 (drop 8 z)) ≡ Some (cells_with a b (length cells)) = ap cells_at behind_place ∙ cells_again a b more range.before range.after range.table in
-    ap (λ o. with_transaction o z) numbered
+    ap (λ o. option_and_then (λ t. changed_at t (drop 8 z)) o) numbered
     ∙ rw (both_read, place, four, lt-ltb p 2097152 range.place) refl
 
 pub again : (e : Entry) (more : List ℕ) → IsEntry e → entry_at (entry_bytes e ++ more) ≡ Some (entry_with e (length_of e))
@@ -393,8 +393,7 @@ changed_some : (t p : ℕ) (o : Option (Cell × Cell × ℕ)) (y : Entry × ℕ)
 changed_some t p None y e = cc
 changed_some t p (Some c) y e = counted (Change t p c.0 c.1, 13 + c.2) y e (omega arith)
 
-change_some : (o : Option ℕ) (z : List ℕ) (y : Entry × ℕ) → with_transaction o z ≡ Some y → 1 ≤ y.1
-unfolding changed_at
+change_some : (o : Option ℕ) (z : List ℕ) (y : Entry × ℕ) → option_and_then (λ t. changed_at t (drop 8 z)) o ≡ Some y → 1 ≤ y.1
 change_some None z y e = cc
 change_some (Some t) z y e =
     let p = number 4 (drop 8 z) in
@@ -418,7 +417,7 @@ switch_some z y e = counted (Switch (number 4 z), 5) y (found (nat_le 4 (length 
 
 -- also of bytes that aren't below 256
 pub takes_some : (z : List ℕ) (y : Entry × ℕ) → entry_at z ≡ Some y → 1 ≤ y.1
-unfolding entry_at change_at
+unfolding entry_at change_at cells_at
 takes_some [] y e = cc
 takes_some (kind ∷ z) y e =
     either (chosen (kind == 1) _ _ _ e) (λ h. change_some (transaction_at z) z y h.1) (λ h.

@@ -1,5 +1,5 @@
 -- What is read at the front of bytes.
-use Rattle.std.specs.Prelude.{ℕ, zero, suc, ◌+◌, ◌^◌, ◌==◌, ◌&&◌, List, [], ◌∷◌, length, take, drop, nat_le, nat_lt, if◌then◌else◌, Option, Some, None}
+use Rattle.std.specs.Prelude.{ℕ, zero, suc, ◌+◌, ◌^◌, ◌==◌, ◌&&◌, List, [], ◌∷◌, length, take, drop, nat_le, nat_lt, if◌then◌else◌, Option, Some, None, option_and_then}
 use Rattle.tt_value.specs.BigEndian.{number}
 use Rattle.tt_value.specs.ReadingRows.{row_in}
 use Rattle.tt_value.specs.declared.value.Row.{Row}
@@ -33,29 +33,33 @@ abbrev pub with_second : Cell × ℕ → Option (Cell × ℕ) → Option (Cell �
 with_second a None = None
 with_second a (Some b) = if of_one_table a.0 b.0 then Some (a.0, b.0, a.1 + b.1) else None
 
-abbrev pub with_first : Option (Cell × ℕ) → List ℕ → Option (Cell × Cell × ℕ)
-with_first None z = None
-with_first (Some a) z = with_second a (cell_at (drop a.1 z))
+-- two cells, the second read behind so many bytes as the first takes
+abbrev pub cells_of : Option (Cell × ℕ) → (ℕ → Option (Cell × ℕ)) → Option (Cell × Cell × ℕ)
+cells_of None second = None
+cells_of (Some first) second = with_second first (second first.1)
 
 -- the two cells of a change, and how many bytes they take
 unfoldable pub cells_at : List ℕ → Option (Cell × Cell × ℕ)
-cells_at z = with_first (cell_at z) z
+cells_at z = cells_of (cell_at z) (λ n. cell_at (drop n z))
 
 abbrev pub change_of : ℕ → ℕ → Option (Cell × Cell × ℕ) → Option (Entry × ℕ)
 change_of transaction place None = None
 change_of transaction place (Some cells) = Some (Change transaction place cells.0 cells.1, 13 + cells.2)
 
--- a place and two cells
-unfoldable pub changed_at : ℕ → List ℕ → Option (Entry × ℕ)
-changed_at transaction z =
-    if nat_le 4 (length z) && nat_lt (number 4 z) places_end then change_of transaction (number 4 z) (cells_at (drop 4 z)) else None
+-- a place in front of two cells
+abbrev pub placed : ℕ → List ℕ → Option (Cell × Cell × ℕ) → Option (Entry × ℕ)
+placed transaction z cells = if nat_le 4 (length z) && nat_lt (number 4 z) places_end then change_of transaction (number 4 z) cells else None
 
-abbrev pub with_transaction : Option ℕ → List ℕ → Option (Entry × ℕ)
-with_transaction None z = None
-with_transaction (Some transaction) z = changed_at transaction (drop 8 z)
+-- what stands behind a transaction's number: a place and two cells
+abbrev pub changed_at : ℕ → List ℕ → Option (Entry × ℕ)
+changed_at transaction z = placed transaction z (cells_at (drop 4 z))
 
+-- a transaction's number, a place and two cells
 unfoldable pub change_at : List ℕ → Option (Entry × ℕ)
-change_at z = with_transaction (transaction_at z) z
+change_at z =
+    let place = drop 8 z in
+    let cells = drop 4 place in
+    option_and_then (λ transaction. placed transaction place (cells_of (cell_at cells) (λ n. cell_at (drop n cells)))) (transaction_at z)
 
 unfoldable pub switch_at : List ℕ → Option (Entry × ℕ)
 switch_at z = if nat_le 4 (length z) then Some (Switch (number 4 z), 5) else None
@@ -68,20 +72,16 @@ abbrev pub aborted : Option ℕ → Option (Entry × ℕ)
 aborted None = None
 aborted (Some transaction) = Some (Abort transaction, 9)
 
--- by the kind
-abbrev pub kind_at : ℕ → List ℕ → Option (Entry × ℕ)
-kind_at kind z =
+-- the first entry, by its kind, and how many bytes it takes
+unfoldable pub entry_at : List ℕ → Option (Entry × ℕ)
+entry_at [] = None
+entry_at (kind ∷ z) =
     if kind == 1 then change_at z
     else (if kind == 2 then committed (transaction_at z)
     else (if kind == 3 then aborted (transaction_at z)
     else (if kind == 4 then Some (Mark, 1)
     else (if kind == 5 then switch_at z
     else None))))
-
--- the first entry, and how many bytes it takes
-unfoldable pub entry_at : List ℕ → Option (Entry × ℕ)
-entry_at [] = None
-entry_at (kind ∷ z) = kind_at kind z
 
 abbrev pub behind : Entry → Option (List Entry) → Option (List Entry)
 behind e None = None

@@ -119,7 +119,6 @@ fn read_cells(alloc: Global, bytes: &[u8]) -> Result<Option<(Cell, Cell, usize)>
     }
 }
 
-#[tactic(auto, unfolding(crate::specs::Read::changed_at))]
 fn read_changed(
     alloc: Global,
     transaction: u64,
@@ -149,7 +148,7 @@ fn read_changed(
     }
 }
 
-#[tactic(auto, unfolding(crate::specs::Read::change_at))]
+#[tactic(auto, unfolding(crate::specs::Read::change_at, crate::specs::Read::cells_at))]
 fn read_change(alloc: Global, bytes: &[u8]) -> Result<Option<(Entry, usize)>, AllocError>
     ensures value { IfOk result (λ o. o ≡ change_at bytes.now) }
     ensures within { IfOk result (λ o. IfSome o (λ p. p.1 ≤ length bytes.now + 1)) }

@@ -2,9 +2,10 @@
 //! the fields say where the entry ends.
 ghost use Rattle.std.specs.Prelude.{◌≡◌, ◌≤◌, ◌+◌, ◌++◌, ◌∷◌, List, ℕ, length, drop, Some};
 ghost use Rattle.tt_value.specs.BigEndian.{big_endian};
-ghost use Rattle.tt_record.specs.Entry.{IsEntry, full_bytes, cell_bytes, entry_bytes, length_of, overlaid};
+ghost use Rattle.tt_record.specs.Entry.{IsEntry, cell_bytes, entry_bytes, length_of, overlaid};
 ghost use Rattle.tt_value.specs.Stored.{IsCell, IsStorable, row_bytes};
 ghost use Rattle.tt_record.specs.Read.{entry_at};
+ghost use Rattle.tt_value.specs.declared.value.Cell.TheVariants.{Full};
 
 use crate::entry::Entry;
 use tt_value::big_endian::{write_u16, write_u32, write_u64};
@@ -13,9 +14,9 @@ use tt_value::{Cell, Row, stored_length, write_row_into};
 #[tactic(auto, unfolding(tt_value::specs::BigEndian::big_endian))]
 fn write_full(table: u32, row: &Row, out: &mut [u8]) -> usize
     requires row { IsStorable row.now }
-    requires room { length (full_bytes table row.now) ≤ length out.old }
-    ensures length { result ≡ length (full_bytes table row.now) }
-    ensures bytes { out.new ≡ full_bytes table row.now ++ drop (length (full_bytes table row.now)) out.old }
+    requires room { length (cell_bytes (Full table row.now)) ≤ length out.old }
+    ensures length { result ≡ length (cell_bytes (Full table row.now)) }
+    ensures bytes { out.new ≡ cell_bytes (Full table row.now) ++ drop (length (cell_bytes (Full table row.now))) out.old }
 {
     out[0] = 1;
     write_u32(&mut out[1..], table);

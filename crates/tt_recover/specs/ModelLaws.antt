@@ -332,7 +332,7 @@ headed true part k p is = is
 headed false part k p is = cc
 
 part_gates : (test : ℕ → Entry → Bool) (n : ℕ) (file : Option (List ℕ)) (g : Result (List ℕ × List (List ℕ)) GateRefusal) (es : List Entry) (turned : Bool) → gated file ≡ g
-    → part_of n file g ≡ Ok (es, turned) → gate_where test 16 0 (whole_bodies file) ≡ None → any_passes test 0 es ≡ false
+    → part_of (bodies_read n 16 0) n file g ≡ Ok (es, turned) → gate_where test 16 0 (whole_bodies file) ≡ None → any_passes test 0 es ≡ false
 part_gates test n file (Ok found) es turned same is gate =
     gates_none test n 16 0 found.1 (Ok ([], false)) es turned refl (headed (same_bytes found.0 (log_header n)) (bodies_read n 16 0 found.1 (Ok ([], false))) n (es, turned) is)
     (ap (gate_where test 16 0) (sym (gated_bodies file found.0 found.1 same)) ∙ gate)

@@ -79,7 +79,7 @@ plain_headed : (b : Bool) (n k : ℕ) (part : Part) → IsPlain part → IsPlain
 plain_headed true n k part is = is
 plain_headed false n k part is = tt
 
-plain_part : (n : ℕ) (file : Option (List ℕ)) (g : Result (List ℕ × List (List ℕ)) GateRefusal) → IsPlain (part_of n file g)
+plain_part : (n : ℕ) (file : Option (List ℕ)) (g : Result (List ℕ × List (List ℕ)) GateRefusal) → IsPlain (part_of (bodies_read n 16 0) n file g)
 plain_part n file (Ok found) = plain_headed (same_bytes found.0 (log_header n)) n n (bodies_read n 16 0 found.1 (Ok ([], false))) (plain_bodies n 16 0 found.1 (Ok ([], false)) refl)
 plain_part n file (Err (GateBad at)) = plain_headed (same_bytes (take 16 (bytes_of file)) (log_header n)) n n (bodies_read n 16 0 (whole_bodies file) (Err (BadBatch n at))) (plain_bodies n 16 0 (whole_bodies file) (Err (BadBatch n at)) tt)
 plain_part n file (Err Absent) = tt

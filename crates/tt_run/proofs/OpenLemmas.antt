@@ -11,14 +11,14 @@ use Rattle.tt_set.specs.declared.settings.Settings.{Settings}
 use Rattle.tt_log.specs.declared.refusal.LogRefusal.{LogRefusal}
 use Rattle.tt_log.specs.declared.refusal.LogRefusal.TheVariants.{Gap}
 use Rattle.tt_log.specs.Walk.{LogContents as Read, log_of, nothing}
-use Rattle.tt_log.specs.Log.{CrashLeavesLog, MayLeave}
+use Rattle.tt_log.specs.Log.{CrashLeavesLog, MayLeaveLogs}
 use Rattle.tt_model.specs.Opened.{Opened}
 use Rattle.tt_model.specs.State.{State, with_entry}
 use Rattle.tt_record.specs.Place.{position}
 use Rattle.tt_model.specs.Trail.{Trail}
 use Rattle.tt_recover.specs.Opening.{opened_from, opened_of, newest_first, opening}
 use Rattle.tt_engine.specs.OpeningLaws.{database_found, database_opens, found_is, no_file, read_is, there}
-use Rattle.tt_engine.specs.Prefixes.{IsSinceOpening, IsStill, opens, or_none}
+use Rattle.tt_engine.specs.Prefixes.{IsSinceOpening, IsStill, LogsAreSettled, opens, or_none}
 use Rattle.tt_journal.specs.LogTrail.{ChangesFrom}
 use Rattle.tt_engine.specs.Starts.{begun_over, database, opened_in}
 use Rattle.tt_model.specs.Run.{begun}
@@ -80,20 +80,20 @@ pub made_done : (o : Option (List ℕ)) (now : Files) (may : Outcomes) → o ≡
 made_done None now may none made = (made, made)
 made_done (Some f) now may none made = cc
 
-pub none_left : (may : Outcomes) → LeavesNoLog may → (files : Files) → MayLeave may files → (found : Opened) → opening files ≡ Ok found → found ≡ new_database
+pub none_left : (may : Outcomes) → LeavesNoLog may → (files : Files) → MayLeaveLogs may files → (found : Opened) → opening files ≡ Ok found → found ≡ new_database
 none_left may none files left found is =
     let read = read_is files found is in
-    let refused : log_of 0 files ≡ Err (Gap 0) = no_file files (none (files (LogFile 0)) (left (LogFile 0))) in
+    let refused : log_of 0 files ≡ Err (Gap 0) = no_file files (none (files (LogFile 0)) (left 0)) in
     let read_so : log_of 0 files ≡ Ok read.read = read.is in
     cc
 
 -- where nothing was made
 pub no_other_kept : (old now : Files) (may may' : Outcomes) → Keeps old now may may' → LeavesNoLog may → LeavesNoOther may'
-no_other_kept old now may may' keeps none files left found is = none_left may none files (λ name. keeps.crash name (files name) (left name)) found is
+no_other_kept old now may may' keeps none files left found is = none_left may none files (λ n. keeps.crash (LogFile n) (files (LogFile n)) (left n)) found is
 
 -- where a log was to be made
 pub no_other_made : (old now : Files) (may may' may'' : Outcomes) → Keeps old now may may'
-    → (CrashLeavesAtMost 17 (may' (LogFile 0)) → (files : Files) → MayLeave may'' files → (read : Read) → log_of 0 files ≡ Ok read → read ≡ nothing) → LeavesNoLog may → LeavesNoOther may''
+    → (CrashLeavesAtMost 17 (may' (LogFile 0)) → (files : Files) → MayLeaveLogs may'' files → (read : Read) → log_of 0 files ≡ Ok read → read ≡ nothing) → LeavesNoLog may → LeavesNoOther may''
 no_other_made old now may may' may'' keeps short none files left found is =
     let read = read_is files found is in
     let few : CrashLeavesAtMost 17 (may' (LogFile 0)) = λ c at. subst (λ (o : Option (List ℕ)). size_of o ≤ 17) (sym (none c (keeps.crash (LogFile 0) c at))) (omega arith) in
@@ -149,17 +149,24 @@ unfolding begun with_entry
 begun_found settings files found = refl
 
 -- a run, as it is seen from before the database was opened
-pub run_over : {V : Type 0} (g : Ghosts V) (P Q : Type 0) (told : Streams) (start : State) (end : RunEnd) (old opened new : V) → IsSinceOpening start → (Q → P)
-    → (IsStill start → Keeps (g.now old) (g.now opened) (g.may old) (g.may opened)) → ChangesFrom start.found.end.file (g.now old) (g.now opened) (g.may old) (g.may opened)
-    → IsRunFrom g P told (moment start opened) end new → IsRun g Q told start end old new
-run_over g P Q told start end old opened new since settled still opening ran =
+pub run_over : {V : Type 0} (g : Ghosts V) (P : Type 0) (over : Settings × Opened) (told : Streams) (end : RunEnd) (status : Status) (old opened new : V) → IsSinceOpening (begun_over over.0 (g.now old) over.1)
+    → (LogsAreSettled (g.now old) (g.may old) → P) → (IsStill (begun_over over.0 (g.now old) over.1) → Keeps (g.now old) (g.now opened) (g.may old) (g.may opened))
+    → ChangesFrom over.1.end.file (g.now old) (g.now opened) (g.may old) (g.may opened)
+    → IsRunFrom g P told (moment (begun_over over.0 (g.now old) over.1) opened) end new → status ≡ status_of end → IsRun g over told old new status
+run_over g P over told end status old opened new since settled still opening ran is =
+    let start = begun_over over.0 (g.now old) over.1 in
+    let Q = LogsAreSettled (g.now old) (g.may old) in
+    let same : start.found ≡ over.1 = begun_found over.0 (g.now old) over.1 in
     let under : IsRunFrom g Q told (moment start opened) end new = run_under g P Q told (moment start opened) end new settled ran in
     record {
+      end = end;
+      is = is;
       opened = opened;
       unchanged = still;
       lines = under;
       still = run_still g Q told start end old opened new since still under;
-      others = run_changes g Q told start end old opened new since opening under;
+      others = subst (λ (f : Opened). ChangesFrom f.end.file (g.now old) (g.now new) (g.may old) (g.may new)) same
+          (run_changes g Q told start end old opened new since (subst (λ (f : Opened). ChangesFrom f.end.file (g.now old) (g.now opened) (g.may old) (g.may opened)) (sym same) opening) under);
     }
 
 none_there : (o : Option Position) → o ≡ None → IsSome o → ⊥
@@ -203,7 +210,7 @@ pub completes : {S A K L C B : Type 0} (s : SourceGhosts S) (k : SinkGhosts K) (
 completes s k g settings found old new status bytes script sink logs runs is place told short at_script at_sink at_logs no_script no_sink no_logs =
     elim (runs.ran found is) [
       | inl early ↦ early_completes g settings found old new status logs early at_logs place no_logs
-      | inr did ↦ run_completes (told_between s k old new) bytes did.run.lines.replies did.run.lines.behind.state did.run.lines.last did.end status script sink logs told short did.is did.run.lines.done at_script at_sink at_logs no_script no_sink no_logs
+      | inr did ↦ run_completes (told_between s k old new) bytes did.lines.replies did.lines.behind.state did.lines.last did.end status script sink logs told short did.is did.lines.done at_script at_sink at_logs no_script no_sink no_logs
     ]
 
 -- a run whose lines were begun didn't end before them

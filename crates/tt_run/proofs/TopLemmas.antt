@@ -25,7 +25,7 @@ use Rattle.tt_run.specs.Openings.{IsOpened, IsScriptRunEnd}
 use Rattle.tt_run.specs.Run.{IsRun, moment}
 use Rattle.tt_run.specs.RunEnd.{status_of}
 use Rattle.tt_run.specs.ScriptRun.{DoesScript, IsRunEnd, WasSettled, told_between}
-use Rattle.tt_run.proofs.OpenLemmas.{begun_found, none_left, opened_lines, run_over, same_found}
+use Rattle.tt_run.proofs.OpenLemmas.{none_left, opened_lines, run_over, same_found}
 use Rattle.tt_run.proofs.SettingsLemmas.{EndedSo, ended_complete, ended_in_attributes, ended_not_usage, ended_text}
 
 same_files : (now : Files) (may : Outcomes) → Keeps now now may may
@@ -132,18 +132,12 @@ lines_ran s k g settings old new engine opened end status told opens since does 
     let now_old = g.now old.logs in
     let may_old = g.may old.logs in
     let start = begun_over settings now_old started.found in
-    let run : IsRun g (LogsAreSettled now_old may_old) (told_between s k old new) start end old.logs new.logs =
-    run_over g (WasSettled g engine (moment start opened)) (LogsAreSettled now_old may_old) (told_between s k old new) start end old.logs opened new.logs (since started.found)
-    (λ settled. opens.kept (settled_reads now_old may_old settled)) (λ still. opens.still started.found started.is still)
-    (subst (λ (f : Opened). ChangesFrom f.end.file now_old (g.now opened) may_old (g.may opened)) (sym (begun_found settings now_old started.found)) (opens.others started.found started.is))
-    (does told start started.stands) in
+    let run : IsRun g (settings, started.found) (told_between s k old new) old.logs new.logs status =
+    run_over g (WasSettled g engine (moment start opened)) (settings, started.found) (told_between s k old new) end status old.logs opened new.logs (since started.found)
+    (λ settled. opens.kept (settled_reads now_old may_old settled)) (λ still. opens.still started.found started.is still) (opens.others started.found started.is) (does told start started.stands) is in
     record {
       opened = subst (λ (t : Status). IsOpened settings (database now_old) t) (sym is) (opened_lines settings now_old started.found end started.is started.place ends);
-      ran = λ found found_is. inr (record {
-        end = end;
-        is = is;
-        run = subst (λ (f : Opened). IsRun g (LogsAreSettled now_old may_old) (told_between s k old new) (begun_over settings now_old f) end old.logs new.logs) (same_found now_old started.found found started.is found_is) run;
-      });
+      ran = λ found found_is. inr (subst (λ (f : Opened). IsRun g (settings, f) (told_between s k old new) old.logs new.logs status) (same_found now_old started.found found started.is found_is) run);
     }
 
 -- ---- attributes that aren't right

@@ -2,11 +2,12 @@
 use Rattle.std.proofs.Common.{◌≡◌, ◌⊎◌, inl, inr, ℕ, List, Option, Some, None, Result, Ok, Err, String, refl, sym, ap, ◌∙◌}
 use Rattle.tt_disk.specs.Volume.{IsSettled, Keeps, Outcomes, Files}
 use Rattle.tt_disk.specs.declared.volume.Name.{Name}
+use Rattle.tt_disk.specs.declared.volume.Name.TheVariants.{Log as LogFile}
 use Rattle.tt_disk.specs.declared.volume.Volume.{Ghosts}
 use Rattle.tt_flow.specs.declared.stream.Sink.{Ghosts as SinkGhosts}
 use Rattle.tt_flow.specs.declared.stream.Source.{Ghosts as SourceGhosts}
 use Rattle.tt_value.specs.declared.reply.Stop.TheVariants.{Logs, Images, Backups}
-use Rattle.tt_log.specs.Log.{MayLeave}
+use Rattle.tt_log.specs.Log.{MayLeaveLogs}
 use Rattle.tt_model.specs.Opened.{Opened}
 use Rattle.tt_model.specs.Prefix.{StandsForPrefix}
 use Rattle.tt_model.specs.State.{State}
@@ -20,7 +21,9 @@ use Rattle.tt_run.specs.Openings.{HasNoPlace, IsBeforeLines, IsCreated, new_data
 use Rattle.tt_run.specs.Run.{EndsIn, IsRun, Streams}
 use Rattle.tt_run.specs.RunEnd.{status_of, stop_of}
 use Rattle.tt_run.specs.ScriptRun.{told_between}
-use Rattle.tt_run.specs.TopCall.{DidLines, EndedEarly, Runs, RunsWith, Untouched}
+use Rattle.tt_run.specs.TopCall.{EndedEarly, Runs, RunsWith, Untouched}
+use Rattle.tt_run.specs.World.{joined, joined_outcomes}
+use Rattle.tt_run.specs.WorldLaws.{database_joined, opening_alike, settled_joined}
 use Rattle.tt_run.specs.declared.devices.Devices.{Devices}
 use Rattle.tt_run.specs.declared.run_end.RunEnd.{RunEnd}
 use Rattle.tt_run.specs.declared.run_end.RunEnd.TheVariants.{AtEnd, AtLine, AtSink, AtScript, ScriptOver, NoPlaceAtEnd}
@@ -35,6 +38,10 @@ pub record MayRun (now : Files) (may : Outcomes) : Type 0 where
 
 abbrev pub MayRunOn : {V : Type 0} → Ghosts V → V → Type 0
 MayRunOn g logs = MayRun (g.now logs) (g.may logs)
+
+-- Where the log files may be run, so may the world.
+pub world_may_run : (l c b : Files) (may_l may_c may_b : Outcomes) → MayRun l may_l → MayRun (joined l c b) (joined_outcomes may_l may_c may_b)
+world_may_run l c b may_l may_c may_b runs = record { found = runs.found; is = database_joined l c b ∙ runs.is; settled = settled_joined l c b may_l may_c may_b runs.settled }
 
 -- ---- after a database was made
 
@@ -57,7 +64,7 @@ after_keeps old now may may' keeps runs =
     record {
       found = runs.found;
       is = ap database same ∙ runs.is;
-      settled = (found, ap opens same ∙ is, λ files left. leaves files (λ n. keeps.crash n (files n) (left n)) ∙ sym (ap opens same));
+      settled = (found, ap opens same ∙ is, λ files left. leaves files (λ n. keeps.crash (LogFile n) (files (LogFile n)) (left n)) ∙ sym (ap opens same));
     }
 
 -- ---- after a crash
@@ -67,14 +74,14 @@ pub record OpensAgain (least : ℕ) (s : State) (now : Files) (may : Outcomes) :
   pub runs : MayRun now may
   pub stands : StandsForPrefix least s runs.found
 
-pub after_crash : (least : ℕ) (s : State) (may : Outcomes) (now : Files) (may' : Outcomes) → LeavesOpening least s may → MayLeave may now → ((n : Name) → IsSettled n now may') → OpensAgain least s now may'
+pub after_crash : (least : ℕ) (s : State) (may : Outcomes) (now : Files) (may' : Outcomes) → LeavesOpening least s may → MayLeaveLogs may now → ((n : Name) → IsSettled n now may') → OpensAgain least s now may'
 after_crash least s may now may' leaves left settled =
     let (found, is, stands) = leaves now left in
     record {
       runs = record {
         found = found;
         is = database_found now found is;
-        settled = (found, ap or_none is, λ files l. ap opens (alike files now (λ n. settled n (files n) (l n))));
+        settled = (found, ap or_none is, λ files l. ap or_none (opening_alike files now (λ n. settled (LogFile n) (files (LogFile n)) (l n))));
       };
       stands = stands;
     }
@@ -84,14 +91,14 @@ ok_found (Ok x) found is = ap (λ (o : Option Opened). elim o as (λ _. Result O
 ok_found (Err e) found is = cc
 
 -- Where files may be run, so may what a crash leaves of them.
-pub after_stop : (old now : Files) (may may' : Outcomes) → MayRun old may → MayLeave may now → ((n : Name) → IsSettled n now may') → MayRun now may'
+pub after_stop : (old now : Files) (may may' : Outcomes) → MayRun old may → MayLeaveLogs may now → ((n : Name) → IsSettled n now may') → MayRun now may'
 after_stop old now may may' runs left settled =
     let (found, is, leaves) = runs.settled in
     let again : opens now ≡ Some found = leaves now left ∙ is in
     record {
       found = found;
       is = database_found now found (ok_found _ found again);
-      settled = (found, again, λ files l. ap opens (alike files now (λ n. settled n (files n) (l n))));
+      settled = (found, again, λ files l. ap or_none (opening_alike files now (λ n. settled (LogFile n) (files (LogFile n)) (l n))));
     }
 
 -- ---- after a run
@@ -169,9 +176,9 @@ module _ {S A K L C B Z : Type 0} (s : SourceGhosts S) (a : SourceGhosts A) (k :
   early_kept (BadAttribute name) settings found gives opened rest unfaulted early = absurd early
   early_kept ScriptTooLong settings found gives opened rest unfaulted early = absurd early
 
-  lines_done : (status : Status) (settings : Settings) (found : Opened) → (status ≡ VolumeFault Logs → ⊥) → DidLines g (settings, found) (told_between s k old new) old.logs new.logs status → MayRunOn g new.logs
+  lines_done : (status : Status) (settings : Settings) (found : Opened) → (status ≡ VolumeFault Logs → ⊥) → IsRun g (settings, found) (told_between s k old new) old.logs new.logs status → MayRunOn g new.logs
   lines_done status settings found unfaulted did =
-      let lines = did.run.lines in
+      let lines = did.lines in
       let none : stop_of did.end ≡ None = not_stopped _ _ lines.done.lines lines.behind.state lines.last did.end lines.done.ends (λ e. unfaulted (did.is ∙ e)) in
       let holds = lines.leaves.holds none in
       record {
@@ -193,16 +200,16 @@ module _ {S A K L C B Z : Type 0} (s : SourceGhosts S) (a : SourceGhosts A) (k :
   ]
 
   -- After a fault of the log files the next run may be begun over whatever a crash leaves.
-  pub after_fault : (now : Files) (may : Outcomes) → Runs s a k g old new (VolumeFault Logs) → MayLeave (g.may new.logs) now → ((n : Name) → IsSettled n now may) → MayRun now may
+  pub after_fault : (now : Files) (may : Outcomes) → Runs s a k g old new (VolumeFault Logs) → MayLeaveLogs (g.may new.logs) now → ((n : Name) → IsSettled n now may) → MayRun now may
   after_fault now may did left settled = elim (did.ran told) [
     | inl ended ↦ absurd ended
     | inr with_settings ↦
         let settings = with_settings.0 in
         elim ((with_settings.2).ran runs.found runs.is) [
           | inl early ↦ (after_crash _ _ (g.may new.logs) now may (early.crash runs.settled) left settled).runs
-          | inr lines ↦
-              let run = lines.run.lines in
-              let stop = stopped _ _ run.done.lines run.behind.state run.last lines.end run.done.ends lines.is in
+          | inr did ↦
+              let run = did.lines in
+              let stop = stopped _ _ run.done.lines run.behind.state run.last did.end run.done.ends did.is in
               (after_crash _ _ (g.may new.logs) now may (run.leaves.crash Logs stop runs.settled) left settled).runs
         ]
   ]

@@ -10,3 +10,5 @@ pub mod ScriptRun
 pub mod Status
 pub mod TopCall
 pub mod Words
+pub mod World
+pub mod WorldLaws

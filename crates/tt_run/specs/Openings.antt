@@ -10,7 +10,7 @@ use Rattle.tt_record.specs.declared.entry.Entry.TheVariants.{Mark}
 use Rattle.tt_record.specs.Entry.{length_of}
 use Rattle.tt_record.specs.Place.{position_of, position}
 use Rattle.tt_set.specs.declared.settings.Settings.{Settings}
-use Rattle.tt_log.specs.Log.{MayLeave}
+use Rattle.tt_log.specs.Log.{MayLeaveLogs}
 use Rattle.tt_model.specs.Opened.{Opened}
 use Rattle.tt_recover.specs.Opening.{opened_from, opening}
 use Rattle.tt_engine.specs.Prefixes.{LogsAreSettled}
@@ -129,7 +129,7 @@ LeavesNoLog may = (c : Option (List ℕ)) → may (LogFile 0) c → c ≡ None
 
 -- a crash leaves no log that opens as another than a new database
 abbrev pub LeavesNoOther : (Name → Option (List ℕ) → Type 0) → Type 0
-LeavesNoOther may = (files : Files) → MayLeave may files → (found : Opened) → opening files ≡ Ok found → found ≡ new_database
+LeavesNoOther may = (files : Files) → MayLeaveLogs may files → (found : Opened) → opening files ≡ Ok found → found ≡ new_database
 
 -- what `create` wrote
 abbrev pub IsCreateText : Option (List ℕ) → Option (List ℕ) → Status → Type 0 → Type 0

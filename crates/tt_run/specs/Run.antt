@@ -7,18 +7,21 @@ use Rattle.tt_flow.specs.Script.{script_lines, ended_lines, script_most}
 use Rattle.tt_value.specs.declared.reply.Reply.{Reply}
 use Rattle.tt_value.specs.declared.reply.Stop.{Stop}
 use Rattle.tt_value.specs.declared.reply.Stop.TheVariants.{Logs}
+use Rattle.tt_model.specs.Opened.{Opened}
 use Rattle.tt_model.specs.State.{State, write_position}
+use Rattle.tt_set.specs.declared.settings.Settings.{Settings}
 use Rattle.tt_engine.specs.declared.request.Request.{Request}
-use Rattle.tt_engine.specs.Engine.{CallsLog, EndCallsLog}
 use Rattle.tt_journal.specs.LogTrail.{ChangesFrom, HasFiles, IsQuiet}
 use Rattle.tt_engine.specs.Prefixes.{IsStill, LeavesOpening, LogsAreSettled, OpensForced}
 use Rattle.tt_journal.specs.Onward.{IsOnward}
 use Rattle.tt_engine.specs.Request.{Answers, answer, script_ended}
+use Rattle.tt_engine.specs.Starts.{begun_over}
 use Rattle.tt_run.specs.declared.run_end.RunEnd.{RunEnd}
 use Rattle.tt_run.specs.declared.run_end.RunEnd.TheVariants.{AtEnd, AtLine, AtSink, AtScript, ScriptOver}
-use Rattle.tt_run.specs.RunEnd.{stop_of}
+use Rattle.tt_run.specs.RunEnd.{status_of, stop_of}
 use Rattle.tt_run.specs.Reply.{text_of}
 use Rattle.tt_run.specs.Request.{IsRequest, AreRequests, is_answered}
+use Rattle.tt_run.specs.declared.status.Status.{Status}
 
 -- ---- moments
 
@@ -85,7 +88,7 @@ pub record LeadsTo (script : Option (List ℕ)) (lines : List (Option (List ℕ)
   pub is_one : is_answered line ≡ true
   pub asks : IsRequest line request
   pub leads : last ≡ (answer request s).1
-  pub calls : CallsLog request s
+  pub calls : ¬ (IsQuiet s last)
 
 -- In which state the run ended so, where the lines that were answered led to the first one. The log files stopped it at the end of the
 -- script, with all lines done and something to force, or in the next line, which had then made a part of its entries, and forces
@@ -93,7 +96,7 @@ pub record LeadsTo (script : Option (List ℕ)) (lines : List (Option (List ℕ)
 -- there is always a place: so no run ends otherwise.
 abbrev pub EndsIn : Option (List ℕ) → Option (List ℕ) → List (Option (List ℕ)) → State → State → RunEnd → Type 0
 EndsIn script left lines s last (AtEnd None) = AreLinesDone script left lines (AtEnd None) × (last ≡ script_ended s)
-EndsIn script left lines s last (AtEnd (Some Logs)) = AreLinesDone script left lines (AtEnd (Some Logs)) × (last ≡ s) × EndCallsLog s
+EndsIn script left lines s last (AtEnd (Some Logs)) = AreLinesDone script left lines (AtEnd (Some Logs)) × (last ≡ s) × ¬ (IsQuiet s (script_ended s))
 EndsIn script left lines s last (AtLine None Logs) = LeadsTo script lines s last
 EndsIn script left lines s last (AtSink None) = AreLinesDone script left lines (AtSink None) × (last ≡ s)
 EndsIn script left lines s last AtScript = AreLinesDone script left lines AtScript × (last ≡ s)
@@ -136,12 +139,15 @@ pub record IsRunFrom {V : Type 0} (g : Ghosts V) (settled : Type 0) (told : Stre
   pub done : HasDone told replies behind.state last end
   pub leaves : Leaves g settled behind last end new
 
--- A run of a script, from the state that opening found. Where its Mark forces nothing and begins no file, opening changed no file; and
--- where nothing was forced up to the last state, and no file began, the whole run didn't, unless a volume stopped it. However it
--- ended, it changed no file but the log files from the one on in which the log that was found ends.
-pub record IsRun {V : Type 0} (g : Ghosts V) (settled : Type 0) (told : Streams) (start : State) (end : RunEnd) (old new : V) : Type 0 where
+-- A run of a script by these settings, over what opening found: it is one run of the model, and the status is that of its end. Where its
+-- Mark forces nothing and begins no file, opening changed no file; and where nothing was forced up to the last state, and no file began,
+-- the whole run didn't, unless a volume stopped it. However it ended, it changed no file but the log files from the one on in which
+-- the log that was found ends.
+pub record IsRun {V : Type 0} (g : Ghosts V) (over : Settings × Opened) (told : Streams) (old new : V) (status : Status) : Type 0 where
+  pub end : RunEnd
+  pub is : status ≡ status_of end
   pub opened : V
-  pub unchanged : IsStill start → Keeps (g.now old) (g.now opened) (g.may old) (g.may opened)
-  pub lines : IsRunFrom g settled told (moment start opened) end new
+  pub unchanged : IsStill (begun_over over.0 (g.now old) over.1) → Keeps (g.now old) (g.now opened) (g.may old) (g.may opened)
+  pub lines : IsRunFrom g (LogsAreSettled (g.now old) (g.may old)) told (moment (begun_over over.0 (g.now old) over.1) opened) end new
   pub still : IsStill lines.last → stop_of end ≡ None → Keeps (g.now old) (g.now new) (g.may old) (g.may new)
-  pub others : ChangesFrom start.found.end.file (g.now old) (g.now new) (g.may old) (g.may new)
+  pub others : ChangesFrom over.1.end.file (g.now old) (g.now new) (g.may old) (g.may new)

@@ -14,8 +14,9 @@ use Rattle.tt_log.specs.Log.{IsOpen, CrashLeavesForced}
 use Rattle.tt_model.specs.State.{State}
 use Rattle.tt_engine.specs.declared.engine.Engine.{Engine}
 use Rattle.tt_engine.specs.declared.request.Request.{Request}
-use Rattle.tt_engine.specs.Engine.{EndCallsLog, Represents, Steps}
+use Rattle.tt_engine.specs.Engine.{Represents, Steps}
 use Rattle.tt_engine.specs.Request.{script_ended}
+use Rattle.tt_journal.specs.LogTrail.{IsQuiet}
 use Rattle.tt_disk.specs.Faults.{HasCause}
 use Rattle.tt_run.specs.Devices.{KeepsRest, SinkRose, SourceRose, VolumeRose}
 use Rattle.tt_run.specs.declared.devices.Devices.{Devices}
@@ -170,7 +171,7 @@ EndsWith status (Some end) = status_of end ≡ status
 -- what the end of a script leaves, where the lines led to this moment
 abbrev pub HasEnded : {V : Type 0} → Ghosts V → Engine → Moment V → V → RunEnd → Type 0
 HasEnded g e m new (AtEnd None) = Leaves g (WasSettled g e m) m (script_ended m.state) (AtEnd None) new
-HasEnded g e m new (AtEnd (Some Logs)) = Leaves g (WasSettled g e m) m m.state (AtEnd (Some Logs)) new × EndCallsLog m.state
+HasEnded g e m new (AtEnd (Some Logs)) = Leaves g (WasSettled g e m) m m.state (AtEnd (Some Logs)) new × ¬ (IsQuiet m.state (script_ended m.state))
 HasEnded g e m new _ = ⊥
 
 -- The end of the script was done, for each state that the engine stands for.

@@ -18,12 +18,10 @@ use Rattle.tt_engine.specs.Starts.{begun_over, database}
 use Rattle.tt_run.specs.Attributes.{EndedInAttributes, ForSettings, IsBadSo, IsRefusedFor, IsSaid}
 use Rattle.tt_run.specs.Devices.{DoesNothing, SinkFailed, SourceFailed, VolumeFailed}
 use Rattle.tt_run.specs.Openings.{HasNoPlace, IsBeforeLines, IsBeforeOpening, IsCreated, IsCreateText, IsDoneOrWanting, IsOpened, LeavesNoLog, LeavesNoOther, mark_place}
-use Rattle.tt_run.specs.Run.{IsRun, Streams}
-use Rattle.tt_run.specs.RunEnd.{status_of}
+use Rattle.tt_run.specs.Run.{IsRun}
 use Rattle.tt_run.specs.ScriptRun.{told_between}
 use Rattle.tt_run.specs.Words.{form_of}
 use Rattle.tt_run.specs.declared.devices.Devices.{Devices}
-use Rattle.tt_run.specs.declared.run_end.RunEnd.{RunEnd}
 use Rattle.tt_run.specs.declared.status.Status.{Status}
 use Rattle.tt_run.specs.declared.status.Status.TheVariants.{LogOut, NoMemory, Usage, VolumeFault}
 use Rattle.tt_run.specs.declared.words.Action.{Action}
@@ -127,18 +125,11 @@ EndedEarly g settings found old new LogOut = mark_place settings found ≡ None
 EndedEarly g settings found old new (VolumeFault Logs) = FailsAtMark g settings found old new
 EndedEarly g settings found old new _ = ⊥
 
--- The lines were begun over what was found: it is one run of the model, from the state that opening found, and the status is that of
--- its end.
-pub record DidLines {V : Type 0} (g : Ghosts V) (start : Settings × Opened) (told : Streams) (old new : V) (status : Status) : Type 0 where
-  pub end : RunEnd
-  pub is : status ≡ status_of end
-  pub run : IsRun g (LogsAreSettled (g.now old) (g.may old)) told (begun_over start.0 (g.now old) start.1) end old new
-
 -- By these settings, how the database was opened, and what the run then did, unless it ended before the lines.
 pub record RunsWith {S A K L C B : Type 0} (s : SourceGhosts S) (k : SinkGhosts K) (g : Ghosts L) (settings : Settings) (old new : Devices S A K L C B) (status : Status) : Type 0 where
   pub opened : IsOpened settings (database (g.now old.logs)) status
   pub ran : (found : Opened) → database (g.now old.logs) ≡ Ok found
-      → EndedEarly g settings found old new status ⊎ DidLines g (settings, found) (told_between s k old new) old.logs new.logs status
+      → EndedEarly g settings found old new status ⊎ IsRun g (settings, found) (told_between s k old new) old.logs new.logs status
 
 -- What `run DIR` does. By the settings that the attributes give, it opens the database and does the lines; one that can't be opened
 -- stays as it is, whatever failed. Where no count rose, a script that isn't too long is done to its end, unless memory is wanting before

@@ -21,7 +21,7 @@ returns-clause-opened g c =
           (ready_unsynced c.at_end.result _ _ (c.at_end.ensures.laid _ (subst (λ (o : File). IsGateEnd o c.in-Ok.end.gate) (sym ((keeps told).reads (LogFile c.in-Ok.end.at.file))) f.closed)) c.at_end.ensures.fresh.1 c.at_end.ensures.unsynced)
           c.at_end.ensures.fresh.1 refl (record { found = f.exact.found; is = found told ∙ f.exact.is; end = f.exact.end });
       found = found;
-      kept = λ told kept files left. kept files (λ n. (keeps told).crash n (files n) (left n)) ∙ sym (same told);
+      kept = λ told kept files left. kept files (λ n. (keeps told).crash (LogFile n) (files (LogFile n)) (left n)) ∙ sym (same told);
     }
 
 pub returns-clause-empty : goal.returns-clause-empty
