@@ -80,11 +80,3 @@ pub record Ends {V T : Type 0} (g : Ghosts V) (e : Engine) (old : V) (e' : Engin
   pub stands : (s : State) → Represents e (g.now old) s → OnOk result (Represents e' (g.now new) (script_ended s))
   pub written : (s : State) → Represents e (g.now old) s → OnOk result (Writes g e.log old s e'.log new (script_ended s))
   pub stopped : (s : State) → Represents e (g.now old) s → OnErr result (StopsAtEnd g e old s new)
-
--- The line has calls on the log files: it forces more, or begins a file.
-pub record CallsLog (request : Request) (s : State) : Type 0 where
-  pub moves : ¬ (IsQuiet s ((answer request s).1))
-
--- The end of the script has calls on the log files: something is to be forced.
-pub record EndCallsLog (s : State) : Type 0 where
-  pub moves : ¬ (IsQuiet s (script_ended s))
