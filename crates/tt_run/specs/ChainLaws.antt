@@ -17,7 +17,7 @@ use Rattle.tt_engine.specs.Prefixes.{LeavesOpening, LogsAreSettled, opens, or_no
 use Rattle.tt_engine.specs.Starts.{begun_over, database}
 use Rattle.tt_run.specs.Attributes.{AreSettings, EndedInAttributes}
 use Rattle.tt_run.specs.Devices.{DoesNothing}
-use Rattle.tt_run.specs.Openings.{HasNoPlace, IsBeforeLines, IsCreated, new_database}
+use Rattle.tt_run.specs.Openings.{HasNewDatabase, HasNoPlace, IsBeforeLines, IsCreated, new_database}
 use Rattle.tt_run.specs.Run.{EndsIn, IsRun, Streams}
 use Rattle.tt_run.specs.RunEnd.{status_of, stop_of}
 use Rattle.tt_run.specs.ScriptRun.{told_between}
@@ -45,10 +45,22 @@ world_may_run l c b may_l may_c may_b runs = record { found = runs.found; is = d
 
 -- ---- after a database was made
 
+-- a `create` that ends so made a database, also where its sink failed behind it
+abbrev pub MadeDatabase : Status → Type 0
+MadeDatabase Done = Unit {0}
+MadeDatabase SinkFault = Unit {0}
+MadeDatabase _ = ⊥
+
+new_runs : (now : Files) (may : Outcomes) → HasNewDatabase now may → MayRun now may
+new_runs now may made = record { found = new_database; is = made.0; settled = made.2 }
+
 -- A database that was made may be run.
-pub after_create : (log : Option (List ℕ)) (now : Files) (may : Outcomes) → IsCreated log Done now may → MayRun now may
-after_create None now may made = record { found = new_database; is = made.0; settled = made.2 }
-after_create (Some f) now may made = absurd made
+pub after_create : (log : Option (List ℕ)) (status : Status) (now : Files) (may : Outcomes) → MadeDatabase status → IsCreated log status now may → MayRun now may
+after_create None Done now may is made = new_runs now may made
+after_create None SinkFault now may is made = new_runs now may made
+after_create (Some f) Done now may is made = absurd made
+after_create (Some f) SinkFault now may is made = absurd made
+after_create log _ now may is made = absurd is
 
 -- ---- after files were only read
 
