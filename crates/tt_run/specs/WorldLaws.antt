@@ -116,10 +116,10 @@ abbrev beside : {L C B : Type 0} → C → B → L → World L C B
 beside images backups logs = record { logs = logs; images = images; backups = backups }
 
 module _ {L C B : Type 0} (l : Ghosts L) (c : Ghosts C) (b : Ghosts B) (images : C) (backups : B) where
-  lift : L → World L C B
+  abbrev lift : L → World L C B
   lift logs = beside images backups logs
 
-  lift_moment : Moment L → Moment (World L C B)
+  abbrev lift_moment : Moment L → Moment (World L C B)
   lift_moment m = moment m.state (lift m.logs)
 
   changes_lifted : (k : ℕ) (old new : L) → ChangesFrom k (l.now old) (l.now new) (l.may old) (l.may new)
@@ -153,6 +153,7 @@ module _ {L C B : Type 0} (l : Ghosts L) (c : Ghosts C) (b : Ghosts B) (images :
   -- at each moment images and backups are these
   moments_lifted : (P Q : Type 0) (m after : Moment L) (lines : List (Request × Reply)) (from : Q → P) (held : AreLinesBetween l P m lines after) (old : L)
       → AtEachMoment (whole l c b) Q (OnlyLogsCalled (lift old)) (lift_moment m) lines (lift_moment after) (lines_lifted P Q m after lines from held)
+  unfolding lines_lifted
   moments_lifted P Q m after [] from (is, holds) old = record { images = refl; backups = refl }
   moments_lifted P Q m after (line ∷ lines) from (holds, (next, is, more)) old = (record { images = refl; backups = refl }, moments_lifted P Q next after lines from more old)
 
